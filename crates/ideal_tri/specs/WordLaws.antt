@@ -1,0 +1,34 @@
+-- What holds of the reduction of words, and of closed words.
+use Rattle.std.specs.Prelude.{◌≡◌, ◌↔◌, ℤ, List, ◌++◌, true}
+use Rattle.ideal_tri.specs.Words.{inverse_word, IsReduced, reduce, Deletes, DeletesAll, IsRotation, IsCyclicallyReduced, cyclic_reduce}
+use Rattle.ideal_tri.specs.Curves.{IsSameCurve, is_rotation, is_same_curve}
+
+-- the free reduction is the one reduced word that deletions reach
+pub record ReductionLaws : Type 0 where
+  pub is_reduced : (w : List ℤ) → IsReduced (reduce w)
+  pub fixed : (w : List ℤ) → IsReduced w → reduce w ≡ w
+  pub append : (u v : List ℤ) → reduce (u ++ v) ≡ reduce (reduce u ++ reduce v)
+  pub cancel : (a u b : List ℤ) → reduce (a ++ (u ++ (inverse_word u ++ b))) ≡ reduce (a ++ b)
+  pub inverse : (w : List ℤ) → reduce (inverse_word w) ≡ inverse_word (reduce w)
+  pub deletion : (v w : List ℤ) → Deletes v w → reduce v ≡ reduce w
+  pub reached : (w : List ℤ) → DeletesAll w (reduce w)
+  pub only : (v w : List ℤ) → DeletesAll v w → IsReduced w → w ≡ reduce v
+
+-- the cyclic reduction of a closed word is fixed up to rotation
+pub record CyclicLaws : Type 0 where
+  pub is_reduced : (w : List ℤ) → IsCyclicallyReduced (cyclic_reduce w)
+  pub fixed : (w : List ℤ) → IsCyclicallyReduced w → cyclic_reduce w ≡ w
+  pub shape : (w : List ℤ) → (p : List ℤ) × (reduce w ≡ p ++ (cyclic_reduce w ++ inverse_word p))
+  pub conjugate : (q u v : List ℤ) → reduce (inverse_word q ++ (u ++ q)) ≡ reduce v → IsRotation (cyclic_reduce u) (cyclic_reduce v)
+  pub conjugator : (u v : List ℤ) → IsRotation (cyclic_reduce u) (cyclic_reduce v) → (q : List ℤ) × (reduce (inverse_word q ++ (u ++ q)) ≡ reduce v)
+  pub rotation : (u v : List ℤ) → IsRotation u v → IsRotation (cyclic_reduce u) (cyclic_reduce v)
+  pub inverse : (w : List ℤ) → IsRotation (cyclic_reduce (inverse_word w)) (inverse_word (cyclic_reduce w))
+
+-- to run along the same curve is an equivalence, and decided by a test
+pub record CurveLaws : Type 0 where
+  pub rotation_test : (u v : List ℤ) → (is_rotation u v ≡ true) ↔ IsRotation u v
+  pub curve_test : (u v : List ℤ) → (is_same_curve u v ≡ true) ↔ IsSameCurve u v
+  pub same : (u : List ℤ) → IsSameCurve u u
+  pub back : (u v : List ℤ) → IsSameCurve u v → IsSameCurve v u
+  pub along : (u v w : List ℤ) → IsSameCurve u v → IsSameCurve v w → IsSameCurve u w
+  pub reduced : (u v : List ℤ) → IsSameCurve u v → IsSameCurve (cyclic_reduce u) (cyclic_reduce v)
