@@ -1,0 +1,9 @@
+pub mod Hits
+pub mod Images
+pub mod Moved
+pub mod Triangles
+pub mod Slots
+pub mod Carried
+pub mod Composed
+pub mod Inverses
+pub mod Forced

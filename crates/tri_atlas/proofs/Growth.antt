@@ -1,0 +1,110 @@
+-- What is of an arena stays so, and means the same, as the arena grows.
+use Rattle.std.proofs.Common.{◌≡◌, ◌∙◌, ◌<◌, ◌++◌, [], ◌∷◌, ℕ, Bool, true, false, List, ℤ, refl, sym, ap, subst, length, map, arith, length-append}
+use Rattle.std.proofs.lemmas.List.{append-nil, append_assoc, get_or_append_left}
+use Rattle.ideal_tri.specs.Triangulations.{IsLabel}
+use Rattle.tri_atlas.specs.Moves.{Move, back_of}
+use Rattle.tri_atlas.specs.Arena.{Entry, Arena, EdgeHandle, MoveHandle, triangulation, entry_at, source_of, target_of, step_of, IsTriIn, IsEdgeIn, IsMoveIn, IsBeginning, Grows}
+use Rattle.tri_atlas.specs.Paths.{MovePath, Lead, IsPathIn}
+use Rattle.tri_atlas.specs.ArenaLaws.{GrowthLaws}
+use Rattle.tri_atlas.proofs.Arenas.{triangulation_stays}
+
+-- ---- beginnings of lists
+
+begins_with_itself : {A : Type 0} (xs : List A) → IsBeginning xs xs
+begins_with_itself xs = ([], sym (append-nil xs))
+
+begins_through : {A : Type 0} (xs ys zs : List A) → IsBeginning xs ys → IsBeginning ys zs → IsBeginning xs zs
+begins_through {A} xs ys zs (u, e) (v, f) = (u ++ v, f ∙ ap (λ (z : List A). z ++ v) e ∙ append_assoc xs u v)
+
+longer : {A : Type 0} (xs ys : List A) (k : ℕ) → IsBeginning xs ys → k < length xs → k < length ys
+longer {A} xs ys k (u, e) h = subst (λ (z : List A). k < length z) (sym e) (omega (arith, length-append xs u))
+
+-- ---- handles
+
+grows_none : (arena : Arena) → Grows arena arena
+grows_none arena = record { triangulations = begins_with_itself arena.triangulations; moves = begins_with_itself arena.moves }
+
+grows_further : (first second third : Arena) → Grows first second → Grows second third → Grows first third
+grows_further first second third g h = record {
+  triangulations = begins_through first.triangulations second.triangulations third.triangulations g.triangulations h.triangulations;
+  moves = begins_through first.moves second.moves third.moves g.moves h.moves;
+}
+
+tri_stays_in : (old new : Arena) (t : ℕ) → Grows old new → IsTriIn old t → IsTriIn new t
+tri_stays_in old new t g h = longer old.triangulations new.triangulations t g.triangulations h
+
+same_triangulation : (old new : Arena) (t : ℕ) → Grows old new → IsTriIn old t → triangulation new t ≡ triangulation old t
+same_triangulation old new t g h = triangulation_stays old.triangulations new.triangulations g.triangulations.0 t h g.triangulations.1
+
+edge_stays_in : (old new : Arena) (e : EdgeHandle) → Grows old new → IsEdgeIn old e → IsEdgeIn new e
+edge_stays_in old new e g h = record {
+  tri = tri_stays_in old new e.tri g h.tri;
+  label = subst (λ (t : List (List ℤ)). IsLabel t e.label) (sym (same_triangulation old new e.tri g h.tri)) h.label;
+}
+
+move_stays_in : (old new : Arena) (m : MoveHandle) → Grows old new → IsMoveIn old m → IsMoveIn new m
+move_stays_in old new m g h = longer old.moves new.moves m.number g.moves h
+
+same_entry : (old new : Arena) (m : MoveHandle) → Grows old new → IsMoveIn old m → entry_at new.moves m.number ≡ entry_at old.moves m.number
+same_entry old new m g h =
+    ap (λ (z : List Entry). entry_at z m.number) g.moves.1 ∙ get_or_append_left old.moves g.moves.0 _ m.number h
+
+same_source : (old new : Arena) (m : MoveHandle) → Grows old new → IsMoveIn old m → source_of new m ≡ source_of old m
+same_source old new m g h = by_direction m.backwards
+  where
+    by_direction : (b : Bool) → let way : MoveHandle = record { number = m.number; backwards = b } in source_of new way ≡ source_of old way
+    by_direction true = ap (λ (e : Entry). e.target) (same_entry old new m g h)
+    by_direction false = ap (λ (e : Entry). e.source) (same_entry old new m g h)
+
+same_target : (old new : Arena) (m : MoveHandle) → Grows old new → IsMoveIn old m → target_of new m ≡ target_of old m
+same_target old new m g h = by_direction m.backwards
+  where
+    by_direction : (b : Bool) → let way : MoveHandle = record { number = m.number; backwards = b } in target_of new way ≡ target_of old way
+    by_direction true = ap (λ (e : Entry). e.source) (same_entry old new m g h)
+    by_direction false = ap (λ (e : Entry). e.target) (same_entry old new m g h)
+
+same_step : (old new : Arena) (m : MoveHandle) → Grows old new → IsMoveIn old m → step_of new m ≡ step_of old m
+same_step old new m g h = by_direction m.backwards
+  where
+    by_direction : (b : Bool) → let way : MoveHandle = record { number = m.number; backwards = b } in step_of new way ≡ step_of old way
+    by_direction true = ap (λ (e : Entry). back_of e.move) (same_entry old new m g h)
+    by_direction false = ap (λ (e : Entry). e.move) (same_entry old new m g h)
+
+-- ---- paths
+
+lead_stays : (old new : Arena) (s t : ℕ) (moves : List MoveHandle) → Grows old new → Lead old s moves t → Lead new s moves t
+lead_stays old new s t [] g h = h
+lead_stays old new s t (m ∷ moves) g h = (
+  move_stays_in old new m g h.0,
+  same_source old new m g h.0 ∙ h.1,
+  subst (λ (z : ℕ). Lead new z moves t) (sym (same_target old new m g h.0)) (lead_stays old new (target_of old m) t moves g h.2),
+)
+
+path_stays_in : (old new : Arena) (path : MovePath) → Grows old new → IsPathIn old path → IsPathIn new path
+path_stays_in old new path g h = record {
+  start_in = tri_stays_in old new path.start g h.start_in;
+  end_in = tri_stays_in old new path.end g h.end_in;
+  moves_lead = lead_stays old new path.start path.end path.moves g h.moves_lead;
+}
+
+same_steps : (old new : Arena) (s t : ℕ) (moves : List MoveHandle) → Grows old new → Lead old s moves t
+    → map (step_of new) moves ≡ map (step_of old) moves
+same_steps old new s t [] g h = refl
+same_steps old new s t (m ∷ moves) g h =
+    ap (λ (z : Move). z ∷ map (step_of new) moves) (same_step old new m g h.0)
+    ∙ ap (λ (z : List Move). step_of old m ∷ z) (same_steps old new (target_of old m) t moves g h.2)
+
+pub growth_laws : GrowthLaws
+growth_laws = record {
+  none = grows_none;
+  further = grows_further;
+  tri_in = tri_stays_in;
+  triangulation = same_triangulation;
+  edge_in = edge_stays_in;
+  move_in = move_stays_in;
+  source = same_source;
+  target = same_target;
+  step = same_step;
+  path_in = path_stays_in;
+  moves = λ old new path g h. same_steps old new path.start path.end path.moves g h.moves_lead;
+}
