@@ -1,0 +1,11 @@
+pub mod Counts
+pub mod Dir
+pub mod Files
+pub mod Finite
+pub mod FiniteMaps
+pub mod Held
+pub mod Streams
+pub mod Sure
+pub mod Taken
+pub mod Whole
+pub mod Words
