@@ -1,0 +1,11 @@
+pub mod Entries
+pub mod Refused
+pub mod Listed
+pub mod Surfaced
+pub mod Fields
+pub mod Lines
+pub mod Multicurves
+pub mod Moves
+pub mod Counted
+pub mod Files
+pub mod Runs

@@ -1,0 +1,11 @@
+pub mod Command
+pub mod Seen
+pub mod Names
+pub mod Surfaces
+pub mod KeptSurface
+pub mod Coordinates
+pub mod Answers
+pub mod Report
+pub mod Refusals
+pub mod Headline
+pub mod Run

@@ -1,0 +1,101 @@
+//! How names are spelt.
+ghost use Rattle.std.specs.Prelude.{◌≡◌};
+ghost use Rattle.std.specs.List.{list_all};
+ghost use Rattle.flipper_cli.specs.Names.{is_lower, is_upper, is_digit, is_name_byte, is_surface_byte, is_generator_name, is_surface_name};
+
+/// A generator's name is a lower-case letter and at most 15 lower-case letters, digits and `_` behind it.
+pub(crate) fn is_generator_name(text: &str) -> bool
+    ensures { result ≡ is_generator_name text.now }
+{
+    match text.as_bytes() {
+        [first, rest @ ..] => is_lower(*first) && rest.len() <= 15 && are_name_bytes(rest),
+        [] => false,
+    }
+}
+
+/// A surface's name is 1 to 64 letters, digits, `_` and `-`.
+pub(crate) fn is_surface_name(text: &str) -> bool
+    ensures { result ≡ is_surface_name text.now }
+{
+    let bytes = text.as_bytes();
+    1 <= bytes.len() && bytes.len() <= 64 && are_surface_bytes(bytes)
+}
+
+fn are_name_bytes(bytes: &[u8]) -> bool
+    ensures { result ≡ list_all is_name_byte bytes.now }
+{
+    bytes.iter().all(|c| is_name_byte(*c))
+}
+
+fn are_surface_bytes(bytes: &[u8]) -> bool
+    ensures { result ≡ list_all is_surface_byte bytes.now }
+{
+    bytes.iter().all(|c| is_surface_byte(*c))
+}
+
+fn is_name_byte(c: u8) -> bool
+    ensures { result ≡ is_name_byte c }
+{
+    is_lower(c) || is_digit(c) || c == b'_'
+}
+
+fn is_surface_byte(c: u8) -> bool
+    ensures { result ≡ is_surface_byte c }
+{
+    is_lower(c) || is_upper(c) || is_digit(c) || c == b'_' || c == b'-'
+}
+
+fn is_lower(c: u8) -> bool
+    ensures { result ≡ is_lower c }
+{
+    b'a' <= c && c <= b'z'
+}
+
+fn is_upper(c: u8) -> bool
+    ensures { result ≡ is_upper c }
+{
+    b'A' <= c && c <= b'Z'
+}
+
+pub(crate) fn is_digit(c: u8) -> bool
+    ensures { result ≡ is_digit c }
+{
+    b'0' <= c && c <= b'9'
+}
+
+#[cfg(test)]
+mod tests {
+    use super::*;
+
+    #[test]
+    fn names(rt: HostRuntime) {
+        for (text, generator, surface) in [
+            ("r", true, true),
+            ("s_1", true, true),
+            ("abcdefghijklmnop", true, true),
+            ("abcdefghijklmnopq", false, true),
+            ("R", false, true),
+            ("1a", false, true),
+            ("_a", false, true),
+            ("a-b", false, true),
+            ("aB", false, true),
+            ("a.b", false, false),
+            ("a b", false, false),
+            ("\u{e9}", false, false),
+            ("", false, false),
+            (
+                "0123456789012345678901234567890123456789012345678901234567890123",
+                false,
+                true,
+            ),
+            (
+                "01234567890123456789012345678901234567890123456789012345678901234",
+                false,
+                false,
+            ),
+        ] {
+            assert_eq!(rt; is_generator_name(text), generator, "at {text}");
+            assert_eq!(rt; is_surface_name(text), surface, "at {text}");
+        }
+    }
+}
