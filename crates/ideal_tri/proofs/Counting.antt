@@ -8,7 +8,8 @@ use Rattle.std.proofs.lemmas.List.Sums.{sum_by-cons}
 use Rattle.ideal_tri.specs.Labels.{edge_of}
 use Rattle.ideal_tri.specs.Triangulations.{labels_of, edge_count, IsLabel}
 use Rattle.ideal_tri.specs.Refusals.{IsDistinct, IsOfGoodSize}
-use Rattle.ideal_tri.proofs.Places.{same_or_not, small_size}
+use Rattle.ideal_tri.proofs.Labels.{same_or_not}
+use Rattle.ideal_tri.proofs.Places.{small_size}
 
 -- how often a label stands in a list
 abbrev pub count : List ℤ → ℤ → ℕ

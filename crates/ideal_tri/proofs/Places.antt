@@ -1,24 +1,12 @@
 -- What the table of places knows of the labels that were written down.
-use Rattle.std.proofs.Common.{ℕ, ℤ, pos, negsuc, Bool, true, false, List, [], ◌∷◌, ◌++◌, ◌≡◌, ◌≢◌, ◌≤◌, ◌<◌, ◌+◌, ◌-◌, ◌*◌, ◌/◌, suc, ◌⊎◌, inl, inr, refl, sym, ◌∙◌, ap, subst, arith, length, take, set, get_or, replicate, append_assoc}
+use Rattle.std.proofs.Common.{ℕ, ℤ, pos, negsuc, List, [], ◌∷◌, ◌++◌, ◌≡◌, ◌≢◌, ◌≤◌, ◌<◌, ◌+◌, ◌-◌, ◌*◌, ◌/◌, suc, ◌⊎◌, inl, inr, refl, sym, ◌∙◌, ap, subst, arith, length, take, set, get_or, replicate, append_assoc}
 use Rattle.std.specs.List.{All}
-use Rattle.std.specs.Ordering.{int_eq}
-use Rattle.std.proofs.lemmas.Bool.Decides.{Decides-int_eq, not_from_Decides}
 use Rattle.std.proofs.lemmas.List.{length-set, get_or-set_same, get_or-set_other, get_or_append_left, get_or_push, get_or-replicate, length-replicate, length_push, take_more, length-take-le, set_at, take_all}
-use Rattle.ideal_tri.specs.Labels.{inverse, edge_of}
+use Rattle.ideal_tri.specs.Labels.{edge_of}
 use Rattle.ideal_tri.specs.Triangulations.{labels_of, edge_count, IsLabel}
 use Rattle.ideal_tri.specs.Refusals.{IsOfGoodSize}
 use Rattle.ideal_tri.specs.Places.{key_of, with_places, places_of, spare_triples, IsPlaced}
-
-pub same_or_not : (x y : ℤ) → (x ≡ y) ⊎ (x ≢ y)
-same_or_not x y = go (int_eq x y) refl
-  where
-    go : (b : Bool) → int_eq x y ≡ b → (x ≡ y) ⊎ (x ≢ y)
-    go true e = inl ((Decides-int_eq x y).0 e)
-    go false e = inr (not_from_Decides _ (Decides-int_eq x y) e)
-
-pub edge_of-inverse : (x : ℤ) → edge_of (inverse x) ≡ edge_of x
-edge_of-inverse (pos n) = refl
-edge_of-inverse (negsuc n) = refl
+use Rattle.ideal_tri.proofs.Labels.{same_or_not}
 
 -- ---- keys
 

@@ -11,7 +11,8 @@ use Rattle.ideal_tri.specs.Labels.{inverse, edge_of}
 use Rattle.ideal_tri.specs.Triangulations.{labels_of, IsLabel, has_side, triangle_of, place_in, side_of, next_in, next}
 use Rattle.ideal_tri.specs.Refusals.{IsDistinct}
 use Rattle.ideal_tri.specs.Places.{key_of, label_at, IsGlued, IsLaidOut}
-use Rattle.ideal_tri.proofs.Places.{small_label, edge_of-inverse}
+use Rattle.ideal_tri.proofs.Labels.{edge_of-inverse}
+use Rattle.ideal_tri.proofs.Places.{small_label}
 use Rattle.ideal_tri.proofs.Counting.{count, never, length-labels_of, AreAllLabels, all_labels}
 
 -- each is a triple

@@ -1,10 +1,11 @@
 -- Walks on the triangles join, go back and may be reduced.
-use Rattle.std.proofs.Common.{ℕ, ℤ, List, [], ◌∷◌, ◌++◌, ◌≡◌, ◌≢◌, inl, inr, cond, Bool, refl, sym, ◌∙◌, ap, subst}
+use Rattle.std.proofs.Common.{ℕ, ℤ, List, [], ◌∷◌, ◌++◌, ◌≡◌, inl, inr, refl, sym, ◌∙◌, ap, subst}
 use Rattle.ideal_tri.specs.Labels.{inverse}
 use Rattle.ideal_tri.specs.Words.{inverse_word, push, act, reduce}
 use Rattle.ideal_tri.specs.Triangulations.{IsLabel, IsWalk, triangle_of}
 use Rattle.ideal_tri.specs.SurfaceLaws.{WalkLaws}
-use Rattle.ideal_tri.proofs.Labels.{inverse-inverse, inverse_label, same_or_not, int_eq-same, int_eq-other}
+use Rattle.ideal_tri.proofs.Labels.{inverse-inverse, inverse_label, same_or_not}
+use Rattle.ideal_tri.proofs.Reduction.{push-cancels, push-goes_on}
 
 -- ---- walks
 
@@ -20,12 +21,6 @@ walk_back triples s t (x ∷ w) h =
     (walk_back triples (triangle_of triples (inverse x)) t w h.2)
     (inverse_label triples x h.0, refl, ap (triangle_of triples) (inverse-inverse x) ∙ h.1)
 
-push_cancels : (x y : ℤ) (w : List ℤ) → y ≡ inverse x → push x (y ∷ w) ≡ w
-push_cancels x y w e = ap (λ (b : Bool). cond b w (x ∷ (y ∷ w))) (int_eq-same y (inverse x) e)
-
-push_stays : (x y : ℤ) (w : List ℤ) → y ≢ inverse x → push x (y ∷ w) ≡ x ∷ (y ∷ w)
-push_stays x y w ne = ap (λ (b : Bool). cond b w (x ∷ (y ∷ w))) (int_eq-other y (inverse x) ne)
-
 -- a step in front of a walk
 walk-push : (triples : List (List ℤ)) (s t : ℕ) (x : ℤ) (w : List ℤ) → IsLabel triples x → triangle_of triples x ≡ s
     → IsWalk triples (triangle_of triples (inverse x)) w t → IsWalk triples s (push x w) t
@@ -34,8 +29,8 @@ walk-push triples s t x (y ∷ w) l e h =
     elim (same_or_not y (inverse x)) [
       | inl c ↦
           (let back : triangle_of triples (inverse y) ≡ s = ap (λ (z : ℤ). triangle_of triples (inverse z)) c ∙ ap (triangle_of triples) (inverse-inverse x) ∙ e in
-          subst (λ (z : List ℤ). IsWalk triples s z t) (sym (push_cancels x y w c)) (subst (λ (k : ℕ). IsWalk triples k w t) back h.2))
-      | inr ne ↦ subst (λ (z : List ℤ). IsWalk triples s z t) (sym (push_stays x y w ne)) (l, e, h)
+          subst (λ (z : List ℤ). IsWalk triples s z t) (sym (push-cancels x y w c)) (subst (λ (k : ℕ). IsWalk triples k w t) back h.2))
+      | inr ne ↦ subst (λ (z : List ℤ). IsWalk triples s z t) (sym (push-goes_on x y w ne)) (l, e, h)
     ]
 
 pub walk-reduce : (triples : List (List ℤ)) (s t : ℕ) (w : List ℤ) → IsWalk triples s w t → IsWalk triples s (reduce w) t
