@@ -117,4 +117,20 @@ mod tests {
         assert!(rt; Relabelling::from_one(&torus, &sphere, zero, zero).is_none());
         Ok(())
     }
+
+    // A turn of the torus; and none where ~0 would go to two labels, since 0 and ~0 lie in one triangle.
+    #[test]
+    fn from_zero_to_one(rt: HostRuntime) -> Result<(), Fail> {
+        let torus = Tri::from_triples(&[[0, 1, 2], [-1, -2, -3]])?;
+        let folded = Tri::from_triples(&[[0, -1, 1], [-2, 2, -3]])?;
+        let zero = Label::new(0);
+        let one = Label::new(1);
+        let two = Label::new(2);
+        let turn = Relabelling::from_one(&torus, &torus, zero, one).expect(&rt, "a turn");
+        assert_eq!(rt; turn.image(zero), one);
+        assert_eq!(rt; turn.image(one), two);
+        assert_eq!(rt; turn.image(two), zero);
+        assert!(rt; Relabelling::from_one(&folded, &folded, zero, one).is_none());
+        Ok(())
+    }
 }
