@@ -1,4 +1,4 @@
-//! Faults at each call in turn, limits, and one test of the forms over the system.
+//! Faults at each call in turn, limits, and one test of each form over the system.
 ghost use Rattle.std.specs.Prelude.{◌<◌};
 
 use crate::*;
@@ -123,7 +123,7 @@ fn sure_forms_never_fail(rt: HostRuntime) -> Result<(), Fail> {
 }
 
 #[test]
-fn the_system_has_files_and_streams(rt: HostRuntime) -> Result<(), Fail> {
+fn the_system_has_files(rt: HostRuntime) -> Result<(), Fail> {
     let alloc = rt.alloc();
     let name = format!(in alloc; "/tmp/flip_io-{}", process::id(rt.process()))?;
     fs::write(&rt, &name, "bytes")?;
@@ -141,6 +141,11 @@ fn the_system_has_files_and_streams(rt: HostRuntime) -> Result<(), Fail> {
         )
     );
     assert!(rt; matches!(read_all(alloc, &mut shelf, "/", 5), Err(ReadError::Failed)));
+    Ok(())
+}
+
+#[test]
+fn the_system_takes_output(rt: HostRuntime) -> Result<(), Fail> {
     let mut out = StdSink::new(rt.stdout());
     assert!(rt; write_all(&mut out, b"out").is_ok());
     Ok(())
