@@ -1,12 +1,12 @@
 -- The maps of moves and paths on walks, as substitutions, and the images of curves.
-use Rattle.std.specs.Prelude.{◌≡◌, ◌<◌, ℕ, ℤ, List, [], ◌∷◌, ◌++◌, map, slice_index, if◌then◌else◌}
+use Rattle.std.specs.Prelude.{◌≡◌, ◌<◌, ◌+◌, ℕ, zero, suc, ℤ, pos, List, [], ◌∷◌, ◌++◌, length, map, slice_index, if◌then◌else◌}
 use Rattle.std.specs.List.{flat_map}
 use Rattle.std.specs.Ordering.{int_eq}
 use Rattle.ideal_tri.specs.Labels.{inverse}
 use Rattle.ideal_tri.specs.Words.{inverse_word, reduce, cyclic_reduce}
 use Rattle.ideal_tri.specs.Curves.{IsSameCurves, crossings}
 use Rattle.ideal_tri.specs.Strands.{State, IsDrawing, words_of}
-use Rattle.ideal_tri.specs.Triangulations.{edge_count}
+use Rattle.ideal_tri.specs.Triangulations.{IsLabel, IsWalk, edge_count, triangle_of}
 use Rattle.ideal_tri.specs.Relabellings.{image_of}
 use Rattle.tri_atlas.specs.Moves.{Move, flip, unflip, relabel}
 
@@ -44,6 +44,22 @@ map_behind f (m ∷ moves) = map_behind (after (image_of_letter m) f) moves
 -- the map of a path
 abbrev pub path_map : List Move → ℤ → List ℤ
 path_map moves = map_behind identity moves
+
+-- a map of walks from one triangulation to another: a substitution, and where each triangle goes
+pub record IsMap (source target : List (List ℤ)) (f : ℤ → List ℤ) (triangles : ℕ → ℕ) : Type 0 where
+  pub odd : IsOdd f
+  pub within : (t : ℕ) → t < length source → triangles t < length target
+  pub walks : (x : ℤ) → IsLabel source x
+      → IsWalk target (triangles (triangle_of source x)) (f x) (triangles (triangle_of source (inverse x)))
+
+-- how many letters the images of the labels 0, 1, .. below n have together
+abbrev pub letters_below : ℕ → (ℤ → List ℤ) → ℕ
+letters_below zero f = 0
+letters_below (suc n) f = letters_below n f + length (f (pos n))
+
+-- how many letters a map of a triangulation has: those of the images of 0 to n - 1, with n edges
+abbrev pub letters_of : List (List ℤ) → (ℤ → List ℤ) → ℕ
+letters_of triples f = letters_below (edge_count triples) f
 
 -- ---- curves
 

@@ -1,5 +1,5 @@
 -- Moves from one triangulation to another: flips, backward flips and relabellings.
-use Rattle.std.specs.Prelude.{◌≡◌, ℕ, suc, ℤ, pos, negsuc, List, [], ◌∷◌, map, reverse, if◌then◌else◌}
+use Rattle.std.specs.Prelude.{◌≡◌, ℕ, suc, ℤ, pos, negsuc, List, [], ◌∷◌, map, reverse, slice_index_or, if◌then◌else◌}
 use Rattle.std.specs.Ordering.{int_eq}
 use Rattle.ideal_tri.specs.Labels.{inverse}
 use Rattle.ideal_tri.specs.Triangulations.{IsTriangulation, IsLabel, triangle_of, next, previous}
@@ -61,8 +61,18 @@ ArePath before (m ∷ moves) after = (between : List (List ℤ)) × IsTriangulat
 abbrev pub back_along : List Move → List Move
 back_along moves = reverse (map back_of moves)
 
+-- the first side of the triangle with this number
+abbrev pub first_side : List (List ℤ) → ℕ → ℤ
+first_side triples t = slice_index_or (slice_index_or triples t []) 0 (pos 0)
+
 -- where the triangle of x goes: a flip leaves triangles in their places, a relabelling moves it to that of the image
 abbrev pub triangle_after : List (List ℤ) → List (List ℤ) → Move → ℤ → ℕ
 triangle_after before target (flip e a b c d) x = triangle_of before x
 triangle_after before target (unflip e a b c d) x = triangle_of before x
 triangle_after before target (relabel images) x = triangle_of target (image_of images x)
+
+-- where the triangle with this number goes
+abbrev pub triangle_image : List (List ℤ) → List (List ℤ) → Move → ℕ → ℕ
+triangle_image before target (flip e a b c d) t = t
+triangle_image before target (unflip e a b c d) t = t
+triangle_image before target (relabel images) t = triangle_of target (image_of images (first_side before t))

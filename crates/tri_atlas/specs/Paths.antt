@@ -1,7 +1,7 @@
 -- Paths of moves of an atlas, each starting where the one before ended.
 use Rattle.std.specs.Prelude.{◌≡◌, ℕ, Bool, true, false, List, [], ◌∷◌, ◌++◌, map, reverse}
-use Rattle.tri_atlas.specs.Moves.{Move, flip, unflip, relabel}
-use Rattle.tri_atlas.specs.Arena.{Arena, MoveHandle, IsTriIn, IsMoveIn, source_of, target_of, step_of, back}
+use Rattle.tri_atlas.specs.Moves.{Move, flip, unflip, relabel, triangle_image}
+use Rattle.tri_atlas.specs.Arena.{Arena, MoveHandle, triangulation, IsTriIn, IsMoveIn, source_of, target_of, step_of, back}
 
 -- the numbers of the triangulations where a path starts and ends, and its moves
 pub record MovePath : Type 0 where
@@ -23,6 +23,13 @@ pub record IsPathIn (arena : Arena) (path : MovePath) : Type 0 where
 -- what the moves do, one after another
 abbrev pub moves_of : Arena → MovePath → List Move
 moves_of arena path = map (step_of arena) path.moves
+
+-- where a triangle goes along the moves
+abbrev pub triangle_along : Arena → List MoveHandle → ℕ → ℕ
+triangle_along arena [] t = t
+triangle_along arena (m ∷ moves) t =
+    triangle_along arena moves
+    (triangle_image (triangulation arena (source_of arena m)) (triangulation arena (target_of arena m)) (step_of arena m) t)
 
 -- the path that stays where it starts
 abbrev pub empty_path : ℕ → MovePath
