@@ -19,6 +19,30 @@ triangle_at_place (t ∷ rest) zero a b c once below e =
 triangle_at_place (t ∷ rest) (suc k) a b c once below e =
     later_triangle t rest a b c k once (triangle_at_place rest k a b c (IsOnce-tail t rest once) (omega arith) e)
 
+-- the three sides of triangle t, in their order
+pub record HasTriple (triples : List (List ℤ)) (t : ℕ) : Type 0 where
+  pub first : ℤ
+  pub second : ℤ
+  pub third : ℤ
+  pub is : get_or triples t [] ≡ first ∷ (second ∷ (third ∷ []))
+  pub sides : Triangle triples first second third t
+
+pub triple_at : (triples : List (List ℤ)) → IsTriangulation triples → (t : ℕ) → t < length triples → HasTriple triples t
+triple_at triples h t below = go (get_or triples t []) refl (h.three_sides t [] below)
+  where
+    go : (u : List ℤ) → get_or triples t [] ≡ u → length u ≡ 3 → HasTriple triples t
+    go (a ∷ (b ∷ (c ∷ []))) at three = record {
+      first = a;
+      second = b;
+      third = c;
+      is = at;
+      sides = triangle_at_place triples t a b c (IsOnce-triangulation triples h) below at;
+    }
+    go [] at three = absurd (omega arith)
+    go (a ∷ []) at three = absurd (omega arith)
+    go (a ∷ (b ∷ [])) at three = absurd (omega arith)
+    go (a ∷ (b ∷ (c ∷ (d ∷ more)))) at three = absurd (omega arith)
+
 -- the rotations of three letters
 three_rotations : (x y z : ℤ) (u p q : List ℤ) → x ∷ (y ∷ (z ∷ [])) ≡ p ++ q → u ≡ q ++ p
     → (u ≡ x ∷ (y ∷ (z ∷ []))) ⊎ ((u ≡ y ∷ (z ∷ (x ∷ []))) ⊎ (u ≡ z ∷ (x ∷ (y ∷ []))))

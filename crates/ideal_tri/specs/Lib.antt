@@ -16,3 +16,5 @@ pub mod FlipLaws
 pub mod Vertices
 pub mod VertexLaws
 pub mod TripleLaws
+pub mod Components
+pub mod ComponentLaws

@@ -4,6 +4,7 @@ ghost use Rattle.ideal_tri.specs.SurfaceLaws.{SurfaceLaws};
 ghost use Rattle.ideal_tri.specs.FlipLaws.{QuadrilateralLaws};
 ghost use Rattle.ideal_tri.specs.TripleLaws.{TripleLaws};
 ghost use Rattle.ideal_tri.specs.VertexLaws.{PunctureLaws};
+ghost use Rattle.ideal_tri.specs.ComponentLaws.{ComponentLaws};
 
 /// What is proved of the reduction of words, and of closed words.
 pub fn word_laws()
@@ -27,7 +28,12 @@ pub fn triple_laws()
     ensures { TripleLaws }
 {}
 
-/// What is proved of the vertices of a triangulation: how they are numbered, and that there are no more than on a sphere.
+/// What is proved of the vertices of a triangulation: how they are numbered, and that there are no more than on spheres.
 pub fn vertex_laws()
     ensures { PunctureLaws }
+{}
+
+/// What is proved of the components of a triangulation: how they are numbered, and that none is a single triangle.
+pub fn component_laws()
+    ensures { ComponentLaws }
 {}
