@@ -22,3 +22,8 @@ pub mod Spanning
 pub mod Vertices
 pub mod Tables
 pub mod FlippedLayout
+pub mod Hits
+pub mod Bijections
+pub mod InverseImages
+pub mod WrittenImages
+pub mod Relabellings

@@ -1,6 +1,6 @@
 -- A tree of triangles reaches all of them, and the edges that it does not cross join all corners.
 use Rattle.std.proofs.Common.{ℕ, zero, suc, ℤ, pos, negsuc, Bool, true, false, not, cond, List, [], ◌∷◌, ◌≡◌, ◌≢◌, ◌≤◌, ◌<◌, ◌+◌, ◌*◌, ◌⊎◌, inl, inr, refl, sym, ◌∙◌, ap, subst, arith, length, get_or, set, replicate}
-use Rattle.std.proofs.lemmas.Bool.{cases_Bool, false≢true}
+use Rattle.std.proofs.lemmas.Bool.{cases_Bool, cases_eq, false≢true}
 use Rattle.std.proofs.lemmas.List.{length-set, length-replicate, get_or-set_other}
 use Rattle.std.proofs.lemmas.List.Folds.{sum_by-replicate}
 use Rattle.std.proofs.lemmas.List.Sums.{sum_by-cons, sum_by-set}
@@ -9,7 +9,7 @@ use Rattle.ideal_tri.specs.Triangulations.{IsLabel, IsWalk, IsReached, IsTriangu
 use Rattle.ideal_tri.specs.SurfaceLaws.{TriangleLaws}
 use Rattle.ideal_tri.specs.Vertices.{corner_step}
 use Rattle.ideal_tri.proofs.Labels.{inverse-inverse, inverse_label, edge_of-inverse}
-use Rattle.ideal_tri.proofs.Reaching.{same_number, marked, still_marked, was_marked, unmarked, none_marked}
+use Rattle.ideal_tri.proofs.Reaching.{marked, still_marked, was_marked, unmarked, none_marked}
 
 -- ---- names of corners
 
@@ -220,7 +220,7 @@ joins_more ts h reached tree x g c f v joined y l m =
 
     joined_before : AreJoined ts reached tree f
     joined_before u k at free =
-        elim (same_number (edge_of u) (edge_of x)) [
+        elim (cases_eq (edge_of u) (edge_of x)) [
           | inr ne ↦
               joined u k (still_marked reached (triangle_of ts (inverse x)) (triangle_of ts u) below at)
               (get_or-set_other tree (edge_of x) (edge_of u) true false ne ∙ free)
