@@ -1,44 +1,15 @@
 -- The moves of paths of an arena lead from the start to the end, and those of the inverse path lead back.
-use Rattle.std.proofs.Common.{◌≡◌, ◌∙◌, ◌<◌, ◌++◌, [], ◌∷◌, ℕ, ℤ, pos, Bool, true, false, List, refl, sym, ap, subst, length, map, reverse, arith}
-use Rattle.std.proofs.lemmas.List.{map-append, reverse-append, ext_get_or}
-use Rattle.ideal_tri.specs.Labels.{edge_of}
-use Rattle.ideal_tri.specs.Triangulations.{IsTriangulation, edge_count}
-use Rattle.ideal_tri.specs.Relabellings.{IsRelabelling, image_of}
-use Rattle.tri_atlas.specs.Moves.{Move, flip, unflip, relabel, IsMove, ArePath, back_of, inverse_images, origin_of}
+use Rattle.std.proofs.Common.{◌≡◌, ◌∙◌, ◌++◌, [], ◌∷◌, ℕ, Bool, true, false, List, refl, sym, ap, subst, map, reverse}
+use Rattle.std.proofs.lemmas.List.{map-append, reverse-append}
+use Rattle.ideal_tri.specs.Triangulations.{IsTriangulation}
+use Rattle.tri_atlas.specs.Moves.{Move, IsMove, ArePath, back_of}
 use Rattle.tri_atlas.specs.MapLaws.{MoveLaws}
 use Rattle.tri_atlas.specs.Arena.{Arena, MoveHandle, IsEntryOf, triangulation, entry_at, target_of, step_of, back, IsMoveIn, IsArena}
 use Rattle.tri_atlas.specs.Paths.{Lead}
 use Rattle.tri_atlas.specs.ArenaLaws.{HandleLaws, WayLaws}
 use Rattle.tri_atlas.proofs.Arenas.{ends_in, leads}
-use Rattle.tri_atlas.proofs.Relabellings.{length-inverse_images, image_of-inverse_images, label_of_image, IsBijection, bijection_of, origin_undoes}
 
--- ---- backwards twice
-
--- the inverse images of the inverse images
-twice_inverse : MoveLaws → (before target : List (List ℤ)) (images : List ℤ) → IsTriangulation before → IsTriangulation target
-    → IsRelabelling before target images → inverse_images (inverse_images images) ≡ images
-twice_inverse laws before target images ts tt h =
-    let forth : IsBijection (edge_count target) images = bijection_of before target images h in
-    let turned : IsRelabelling target before (inverse_images images) = laws.back before target (relabel images) ts tt h in
-    let once_more : length (inverse_images (inverse_images images)) ≡ length images =
-    length-inverse_images (inverse_images images) ∙ length-inverse_images images in
-    ext_get_or (pos 0) (inverse_images (inverse_images images)) images once_more (λ k below.
-    let within : k < length images = omega (arith, once_more) in
-    let label : edge_of (image_of images (pos k)) < edge_count target =
-    label_of_image before target images (pos k) h (omega (arith, h.one_per_edge)) in
-    let there : image_of (inverse_images images) (image_of images (pos k)) ≡ pos k =
-    image_of-inverse_images images (image_of images (pos k)) (omega (arith, forth.long))
-    ∙ origin_undoes (edge_count target) images (pos k) forth (omega (arith, forth.long)) in
-    image_of-inverse_images (inverse_images images) (pos k) (omega (arith, length-inverse_images images))
-    ∙ ap (origin_of (inverse_images images)) (sym there)
-    ∙ origin_undoes (edge_count before) (inverse_images images) (image_of images (pos k))
-    (bijection_of target before (inverse_images images) turned) (omega (arith, h.one_per_edge, forth.long)))
-
-back_twice : MoveLaws → (before target : List (List ℤ)) (m : Move) → IsTriangulation before → IsTriangulation target → IsMove before target m
-    → back_of (back_of m) ≡ m
-back_twice laws before target (flip e a b c d) ts tt h = refl
-back_twice laws before target (unflip e a b c d) ts tt h = refl
-back_twice laws before target (relabel images) ts tt h = ap relabel (twice_inverse laws before target images ts tt h)
+-- ---- moves
 
 -- a move read backwards does the backward move
 step_of-back : MoveLaws → (arena : Arena) (m : MoveHandle) → IsArena arena → IsMoveIn arena m → step_of arena (back m) ≡ back_of (step_of arena m)
@@ -50,7 +21,7 @@ step_of-back laws arena m h here = by_direction m.backwards
     by_direction : (b : Bool) → let way : MoveHandle = record { number = m.number; backwards = b } in
         step_of arena (back way) ≡ back_of (step_of arena way)
     by_direction true =
-        sym (back_twice laws _ _ (entry_at arena.moves m.number).move (h.sound _ kept.source_in) (h.sound _ kept.target_in) kept.move)
+        sym (laws.twice _ _ (entry_at arena.moves m.number).move kept.move)
     by_direction false = refl
 
 -- ---- paths

@@ -32,3 +32,8 @@ pub record WayLaws : Type 0 where
   pub join : (arena : Arena) (path other : MovePath) → moves_of arena (joined path other) ≡ moves_of arena path ++ moves_of arena other
   pub back : (arena : Arena) (path : MovePath) → IsArena arena → IsPathIn arena path
       → moves_of arena (inverse_path path) ≡ back_along (moves_of arena path)
+
+pub record AtlasLaws : Type 0 where
+  pub growth : GrowthLaws
+  pub handles : HandleLaws
+  pub ways : WayLaws

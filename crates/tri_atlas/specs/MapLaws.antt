@@ -23,6 +23,7 @@ pub record SubstitutionLaws : Type 0 where
 pub record MoveLaws : Type 0 where
   pub odd : (m : Move) → IsOdd (image_of_letter m)
   pub back : (before target : List (List ℤ)) (m : Move) → IsTriangulation before → IsTriangulation target → IsMove before target m → IsMove target before (back_of m)
+  pub twice : (before target : List (List ℤ)) (m : Move) → IsMove before target m → back_of (back_of m) ≡ m
   pub undo : (before target : List (List ℤ)) (m : Move) (x : ℤ) → IsTriangulation before → IsTriangulation target → IsMove before target m
       → IsLabel before x → after (image_of_letter (back_of m)) (image_of_letter m) x ≡ x ∷ []
   pub triangles : (before target : List (List ℤ)) (m : Move) (x y : ℤ) → IsTriangulation before → IsTriangulation target → IsMove before target m
@@ -37,3 +38,8 @@ pub record PathLaws : Type 0 where
   pub join : (first second : List Move) (x : ℤ) → path_map (first ++ second) x ≡ after (path_map second) (path_map first) x
   pub undo : (before target : List (List ℤ)) (moves : List Move) (x : ℤ) → IsTriangulation before → ArePath before moves target
       → IsLabel before x → path_map (moves ++ back_along moves) x ≡ x ∷ []
+
+pub record MapLaws : Type 0 where
+  pub substitutions : SubstitutionLaws
+  pub moves : MoveLaws
+  pub paths : PathLaws

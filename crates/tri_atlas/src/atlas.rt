@@ -11,7 +11,7 @@ ghost use Rattle.tri_atlas.specs.Paths.{is_flip};
 use crate::handles::{EdgeId, MoveId, TriId};
 use crate::laws::map_laws;
 use crate::step::{Carried, Step, backwards, is_flip, is_flipped, label_after};
-use ideal_tri::{Label, Memory, Tri, flip_laws, surface_laws};
+use ideal_tri::{Label, Memory, Tri, flip_laws, relabelling_laws, surface_laws};
 use std::alloc::Global;
 use std::marker::Model;
 
@@ -206,6 +206,7 @@ impl Atlas {
         requires { IsMoveIn self.now m }
         ensures { move_of (edge_count (triangulation self.now (source_of self.now m))) result ≡ step_of self.now m }
     {
+        relabelling_laws();
         let kept = &self.moves[m.number];
         if m.backwards {
             backwards(&kept.step, self.edges as usize)
