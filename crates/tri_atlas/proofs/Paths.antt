@@ -81,6 +81,13 @@ path_map-join r first second x =
     map_behind-append identity first second x
     ∙ map_behind-is r (path_map first) second (map_behind-reduced r identity first (λ y. refl)) x
 
+-- the map of a path is that of its first move, and then that of the others
+pub path_map-cons : ReductionLaws → (m : Move) (moves : List Move) (x : ℤ) → path_map (m ∷ moves) x ≡ after (path_map moves) (image_of_letter m) x
+path_map-cons r m moves x =
+    map_behind-is r (after (image_of_letter m) identity) moves (λ y. reduce-reduce r (flat_map (image_of_letter m) (identity y))) x
+    ∙ reduce-flat_map_reduce r (path_map moves) (flat_map (image_of_letter m) (identity x)) (path_map-odd r moves)
+    ∙ ap (λ (w : List ℤ). reduce (flat_map (path_map moves) w)) (append-nil (image_of_letter m x))
+
 -- ---- there and back
 
 -- one move after some that lead back to each letter
@@ -96,9 +103,7 @@ path_map-then r moves m y h =
 path_map-around : ReductionLaws → (P : ℤ → Type 0) (m : Move) (moves : List Move) (n : Move) (x : ℤ) → All P (image_of_letter m x)
     → ((y : ℤ) → P y → path_map moves y ≡ y ∷ []) → path_map (m ∷ (moves ++ (n ∷ []))) x ≡ after (image_of_letter n) (image_of_letter m) x
 path_map-around r P m moves n x letters h =
-    map_behind-is r (after (image_of_letter m) identity) (moves ++ (n ∷ [])) (λ y. reduce-reduce r (flat_map (image_of_letter m) (identity y))) x
-    ∙ reduce-flat_map_reduce r (path_map (moves ++ (n ∷ []))) (flat_map (image_of_letter m) (identity x)) (path_map-odd r (moves ++ (n ∷ [])))
-    ∙ ap (λ (w : List ℤ). reduce (flat_map (path_map (moves ++ (n ∷ []))) w)) (append-nil (image_of_letter m x))
+    path_map-cons r m (moves ++ (n ∷ [])) x
     ∙ ap reduce
     (flat_map-same_at P (path_map (moves ++ (n ∷ []))) (after (image_of_letter n) identity) (image_of_letter m x) letters
     (λ y p. path_map-then r moves n y (h y p)))
