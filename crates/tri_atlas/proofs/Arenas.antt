@@ -188,7 +188,7 @@ label_carried : MoveLaws → (before target : List (List ℤ)) (m : Move) (x : �
     → edge_count before ≡ edge_count target → IsMove before target m → IsLabel before x → IsLabel target (label_after m x)
 label_carried laws before target (flip e a b c d) x p t n h l = subst (λ (k : ℕ). edge_of x < k) n l
 label_carried laws before target (unflip e a b c d) x p t n h l = subst (λ (k : ℕ). edge_of x < k) n l
-label_carried laws before target (relabel images) x p t n h l = (laws.walks before target (relabel images) x p t h l).0
+label_carried laws before target (relabel images) x p t n h l = ((laws.maps before target (relabel images) p t h).walks x l).0
 
 -- an edge that is carried is an edge of the atlas
 pub edge_carried : MoveLaws → (arena : Arena) (m : MoveHandle) (e : EdgeHandle) → IsArena arena → IsMoveIn arena m → IsEdgeIn arena e

@@ -1,5 +1,5 @@
 -- What the sides of a flip say: the flipped edge is apart from them, labels stay labels, and images of letters are walks.
-use Rattle.std.proofs.Common.{ℕ, ℤ, List, [], ◌∷◌, ◌≡◌, ◌≢◌, ◌<◌, ◌*◌, ◌/◌, refl, sym, ◌∙◌, ap, subst, slice_set, length-set}
+use Rattle.std.proofs.Common.{ℕ, ℤ, List, [], ◌∷◌, ◌≡◌, ◌≢◌, ◌<◌, ◌*◌, ◌/◌, refl, sym, ◌∙◌, ap, subst, length, slice_set, length-set}
 use Rattle.std.specs.List.{All}
 use Rattle.std.proofs.lemmas.List.Elements.{All-nil, All-cons, All-head, All-tail, All-append}
 use Rattle.ideal_tri.specs.Labels.{inverse, edge_of}
@@ -40,19 +40,21 @@ module _ (laws : LowerLaws) where
       other : IsLabel before (inverse e)
       other = laws.labels.label before e h.label
 
-  -- ---- a flip keeps the edges
+  -- ---- a flip keeps the numbers of triangles and edges
 
-  edge_count-flipped : (triples : List (List ℤ)) (e : ℤ) → edge_count (flipped triples e) ≡ edge_count triples
-  edge_count-flipped triples e =
-      ap (λ (n : ℕ). 3 * n / 2)
-      (length-set
+  length-flipped : (triples : List (List ℤ)) (e : ℤ) → length (flipped triples e) ≡ length triples
+  length-flipped triples e =
+      length-set
       (slice_set triples (triangle_of triples e) (e ∷ (previous triples (inverse e) ∷ (next triples e ∷ []))))
       (triangle_of triples (inverse e))
       (inverse e ∷ (previous triples e ∷ (next triples (inverse e) ∷ [])))
-      ∙ length-set triples (triangle_of triples e) (e ∷ (previous triples (inverse e) ∷ (next triples e ∷ []))))
+      ∙ length-set triples (triangle_of triples e) (e ∷ (previous triples (inverse e) ∷ (next triples e ∷ [])))
+
+  pub flip_length : (before target : List (List ℤ)) (e a b c d : ℤ) → IsFlip before target e a b c d → length target ≡ length before
+  flip_length before target e a b c d h = ap length h.result ∙ length-flipped before e
 
   flip_edges : (before target : List (List ℤ)) (e a b c d : ℤ) → IsFlip before target e a b c d → edge_count target ≡ edge_count before
-  flip_edges before target e a b c d h = ap edge_count h.result ∙ edge_count-flipped before e
+  flip_edges before target e a b c d h = ap (λ (n : ℕ). 3 * n / 2) (flip_length before target e a b c d h)
 
   pub label_after_flip : (before target : List (List ℤ)) (e a b c d x : ℤ) → IsFlip before target e a b c d → IsLabel before x → IsLabel target x
   label_after_flip before target e a b c d x h l = subst (λ (n : ℕ). edge_of x < n) (sym (flip_edges before target e a b c d h)) l

@@ -1,6 +1,7 @@
 pub mod Examples
 pub mod LowerLaws
 pub mod Substitutions
+pub mod WalkMaps
 pub mod FlipImages
 pub mod Flips
 pub mod Moves

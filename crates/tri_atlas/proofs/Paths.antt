@@ -80,6 +80,13 @@ module _ (laws : LowerLaws) where
       map_behind-append identity first second x
       ∙ map_behind-is (path_map first) second (map_behind-reduced identity first (λ y. refl)) x
 
+  -- the map of a path is that of its first move, and then that of the others
+  path_map-cons : (m : Move) (moves : List Move) (x : ℤ) → path_map (m ∷ moves) x ≡ after (path_map moves) (image_of_letter m) x
+  path_map-cons m moves x =
+      map_behind-is (after (image_of_letter m) identity) moves (λ y. laws.words.reduction.twice (flat_map (image_of_letter m) (identity y))) x
+      ∙ reduce-flat_map_reduce laws (path_map moves) (flat_map (image_of_letter m) (identity x)) (path_map-odd moves)
+      ∙ ap (λ (w : List ℤ). reduce (flat_map (path_map moves) w)) (append-nil (image_of_letter m x))
+
   -- ---- there and back
 
   -- one move after some that lead back to each letter
@@ -95,9 +102,7 @@ module _ (laws : LowerLaws) where
   path_map-around : (P : ℤ → Type 0) (m : Move) (moves : List Move) (n : Move) (x : ℤ) → All P (image_of_letter m x)
       → ((y : ℤ) → P y → path_map moves y ≡ y ∷ []) → path_map (m ∷ (moves ++ (n ∷ []))) x ≡ after (image_of_letter n) (image_of_letter m) x
   path_map-around P m moves n x letters h =
-      map_behind-is (after (image_of_letter m) identity) (moves ++ (n ∷ [])) (λ y. laws.words.reduction.twice (flat_map (image_of_letter m) (identity y))) x
-      ∙ reduce-flat_map_reduce laws (path_map (moves ++ (n ∷ []))) (flat_map (image_of_letter m) (identity x)) (path_map-odd (moves ++ (n ∷ [])))
-      ∙ ap (λ (w : List ℤ). reduce (flat_map (path_map (moves ++ (n ∷ []))) w)) (append-nil (image_of_letter m x))
+      path_map-cons m (moves ++ (n ∷ [])) x
       ∙ ap reduce
       (flat_map-same_at P (path_map (moves ++ (n ∷ []))) (after (image_of_letter n) identity) (image_of_letter m x) letters
       (λ y p. path_map-then moves n y (h y p)))
@@ -125,5 +130,6 @@ module _ (laws : LowerLaws) where
     odd = path_map-odd;
     reduced = λ moves x. map_behind-reduced identity moves (λ y. refl) x;
     join = path_map-join;
+    cons = path_map-cons;
     undo = path_undone;
   }

@@ -47,13 +47,8 @@ back_along moves = reverse (map back_of moves)
 abbrev pub first_side : List (List ℤ) → ℕ → ℤ
 first_side triples t = slice_index_or (slice_index_or triples t []) 0 (pos 0)
 
--- where the triangle of x goes: a flip leaves triangles in their places, a relabelling moves it to that of the image
-abbrev pub triangle_after : List (List ℤ) → List (List ℤ) → Move → ℤ → ℕ
-triangle_after before target (flip e a b c d) x = triangle_of before x
-triangle_after before target (unflip e a b c d) x = triangle_of before x
-triangle_after before target (relabel images) x = triangle_of target (image_of images x)
-
--- where the triangle with this number goes
+-- where the triangle with this number goes: a flip leaves triangles in their places, a relabelling
+-- moves a triangle to that of the images of its sides
 abbrev pub triangle_image : List (List ℤ) → List (List ℤ) → Move → ℕ → ℕ
 triangle_image before target (flip e a b c d) t = t
 triangle_image before target (unflip e a b c d) t = t

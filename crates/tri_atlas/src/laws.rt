@@ -3,7 +3,7 @@ ghost use Rattle.tri_atlas.specs.MapLaws.{MapLaws};
 
 use ideal_tri::{bijection_laws, flip_laws, label_laws, relabelling_laws, surface_laws, word_laws};
 
-/// What is proved of the maps of moves and paths.
+/// What is proved of the maps of moves and paths. It does nothing: a caller learns the laws.
 pub fn map_laws()
     ensures { MapLaws }
 {

@@ -6,5 +6,5 @@ pub returns : goal.returns
 returns c = record {
   growth = growth_laws;
   handles = handle_laws c.map_laws.ensures.moves;
-  ways = way_laws c.map_laws.ensures.moves;
+  ways = way_laws c.map_laws.ensures;
 }

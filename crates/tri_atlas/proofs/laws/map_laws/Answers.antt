@@ -1,6 +1,6 @@
-use Rattle.tri_atlas.specs.MapLaws.{SubstitutionLaws, MoveLaws, PathLaws}
 use Rattle.tri_atlas.proofs.LowerLaws.{LowerLaws}
 use Rattle.tri_atlas.proofs.Substitutions.{substitution_laws}
+use Rattle.tri_atlas.proofs.WalkMaps.{walk_map_laws}
 use Rattle.tri_atlas.proofs.Moves.{move_laws}
 use Rattle.tri_atlas.proofs.Paths.{path_laws}
 use Rattle.tri_atlas.proofs.laws.map_laws.Goals as goal
@@ -15,4 +15,4 @@ returns c =
       bijections = c.bijection_laws.ensures;
       relabellings = c.relabelling_laws.ensures;
     } in
-    record { substitutions = substitution_laws laws; moves = move_laws laws; paths = path_laws laws }
+    record { substitutions = substitution_laws laws; walks = walk_map_laws laws; moves = move_laws laws; paths = path_laws laws }
