@@ -1,7 +1,7 @@
 -- The numbers of the components: how they are counted by their least triangles, and that none is a single triangle.
 use Rattle.std.proofs.Common.{ℕ, zero, suc, ℤ, Bool, true, false, List, [], ◌∷◌, ◌≡◌, ◌≢◌, ◌≤◌, ◌<◌, ◌+◌, ◌⊎◌, ◌↔◌, inl, inr, refl, sym, ◌∙◌, ap, subst, arith, eqb, length, get_or}
 use Rattle.std.specs.List.{position_or_len, range_with_len}
-use Rattle.std.proofs.lemmas.Bool.{cases_Bool, cases_lt, eqb-true, eq-eqb, ne_eqb, false≢true}
+use Rattle.std.proofs.lemmas.Bool.{cases_Bool, cases_eq, cases_lt, eqb-true, eq-eqb, ne_eqb, false≢true}
 use Rattle.std.proofs.lemmas.List.FromFn.{length-range_with_len, get_or-range_with_len}
 use Rattle.std.proofs.lemmas.List.Sums.{fails_before_first, passes_at_first, position_or_len_is}
 use Rattle.ideal_tri.specs.Labels.{inverse}
@@ -12,7 +12,6 @@ use Rattle.ideal_tri.proofs.Labels.{inverse-inverse, inverse_label, not_own_inve
 use Rattle.ideal_tri.proofs.Triangles.{times, Triangle, label_of_counted, counted_once}
 use Rattle.ideal_tri.proofs.Triples.{HasTriple, triple_at}
 use Rattle.ideal_tri.proofs.Walks.{reached_here, reached_along, reached_back}
-use Rattle.ideal_tri.proofs.Reaching.{same_number}
 use Rattle.ideal_tri.proofs.Numbering.{passing-yes, passing-no, passing-few, passing-grows, numbered}
 use Rattle.ideal_tri.proofs.Nearness.{reached_test}
 
@@ -177,13 +176,13 @@ record Beside (ts : List (List ℤ)) (t : ℕ) : Type 0 where
 
 some_beside : (ts : List (List ℤ)) → IsTriangulation ts → (t : ℕ) (a b c : ℤ) → Triangle ts a b c t → Beside ts t
 some_beside ts h t a b c g =
-    elim (same_number (triangle_of ts (inverse a)) t) [
+    elim (cases_eq (triangle_of ts (inverse a)) t) [
       | inr ne ↦ record { side = a; label = label a g.first.counted; here = g.first.triangle; apart = ne }
       | inl in_a ↦
-          elim (same_number (triangle_of ts (inverse b)) t) [
+          elim (cases_eq (triangle_of ts (inverse b)) t) [
             | inr ne ↦ record { side = b; label = label b g.second.counted; here = g.second.triangle; apart = ne }
             | inl in_b ↦
-                elim (same_number (triangle_of ts (inverse c)) t) [
+                elim (cases_eq (triangle_of ts (inverse c)) t) [
                   | inr ne ↦ record { side = c; label = label c g.third.counted; here = g.third.triangle; apart = ne }
                   | inl in_c ↦
                       absurd

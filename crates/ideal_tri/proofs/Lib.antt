@@ -26,3 +26,8 @@ pub mod Forest
 pub mod Vertices
 pub mod Tables
 pub mod FlippedLayout
+pub mod Hits
+pub mod Bijections
+pub mod InverseImages
+pub mod WrittenImages
+pub mod Relabellings

@@ -18,8 +18,6 @@ use Rattle.ideal_tri.proofs.Triples.{HasTriple, triple_at}
 use Rattle.ideal_tri.proofs.Walks.{reached_here, reached_step, reached_along}
 use Rattle.ideal_tri.proofs.Numbering.{passing, passing-few, passing-fewer, passing-grows, one_or_none}
 
--- ---- the sides of a triangle
-
 -- the triple at the number of the triangle of a label has that side
 has_side_there : (ts : List (List ℤ)) (x : ℤ) → 0 < times x (labels_of ts) → has_side x (get_or ts (triangle_of ts x) []) ≡ true
 has_side_there [] x counted = absurd (omega arith)
@@ -30,26 +28,6 @@ has_side_there (t ∷ rest) x counted =
           ap (λ (n : ℕ). has_side x (get_or (t ∷ rest) n [])) (ap (λ (b : Bool). cond b 0 (suc (triangle_of rest x))) h)
           ∙ has_side_there rest x (omega (arith, times-append x t (labels_of rest), times_of_no_side x t h))
     ]
-
--- a side of triangle s is a label of it
-record IsSideOf (ts : List (List ℤ)) (s : ℕ) (x : ℤ) : Type 0 where
-  label : IsLabel ts x
-  triangle : triangle_of ts x ≡ s
-
-side_of_triple : (ts : List (List ℤ)) → IsTriangulation ts → (s : ℕ) → s < length ts → (x : ℤ) → Contains (get_or ts s []) x → IsSideOf ts s x
-side_of_triple ts h s below x has = go (triple_at ts h s below)
-  where
-    side : (y z : ℤ) → GoesTo ts y z s → y ≡ x → IsSideOf ts s x
-    side y z g e = subst (IsSideOf ts s) e (record { label = label_of_counted ts h y g.counted; triangle = g.triangle })
-
-    among : (a b c : ℤ) → Triangle ts a b c s → Contains (a ∷ (b ∷ (c ∷ []))) x → IsSideOf ts s x
-    among a b c g (zero, b0, e) = side a b g.first e
-    among a b c g (suc zero, b1, e) = side b c g.second e
-    among a b c g (suc (suc zero), b2, e) = side c a g.third e
-    among a b c g (suc (suc (suc k)), b3, e) = absurd (omega arith)
-
-    go : HasTriple ts s → IsSideOf ts s x
-    go g = among g.first g.second g.third g.sides (subst (λ (t : List ℤ). Contains t x) g.is has)
 
 -- ---- short walks
 
@@ -85,11 +63,10 @@ near_reached ts h (suc n) s t below m =
     elim (near_cases ts n s t m) [
       | inl e ↦ reached_here ts s t e
       | inr (k, x, b, at, near) ↦
-          (let side : IsSideOf ts s x = side_of_triple ts h s below x (k, b, at) in
+          (let (label, is_s) = (triangle_laws ts h).listed s x below (k, b, at) in
           reached_along ts s (triangle_of ts (inverse x)) t
-          (subst (λ (i : ℕ). IsReached ts i (triangle_of ts (inverse x))) side.triangle (reached_step ts x side.label))
-          (near_reached ts h n (triangle_of ts (inverse x)) t
-          ((triangle_laws ts h).triangle (inverse x) (inverse_label ts x side.label)) near))
+          (subst (λ (i : ℕ). IsReached ts i (triangle_of ts (inverse x))) is_s (reached_step ts x label))
+          (near_reached ts h n (triangle_of ts (inverse x)) t ((triangle_laws ts h).triangle (inverse x) (inverse_label ts x label)) near))
     ]
 
 near_step : (ts : List (List ℤ)) → IsTriangulation ts → (n t : ℕ) (x : ℤ) → IsLabel ts x → is_near ts n (triangle_of ts (inverse x)) t ≡ true

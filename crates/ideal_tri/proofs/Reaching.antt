@@ -1,8 +1,7 @@
 -- Which triangles can be reached: marks that crossing a side keeps hold all that is reached from a marked triangle.
 use Rattle.std.proofs.Common.{ℕ, ℤ, Bool, true, false, not, List, [], ◌∷◌, ◌≡◌, ◌≢◌, ◌<◌, ◌+◌, suc, zero, ◌⊎◌, inl, inr, refl, sym, ◌∙◌, ap, subst, cond, arith, length, get_or, slice_get, Some, set, replicate}
 use Rattle.std.specs.List.{count_by}
-use Rattle.std.proofs.lemmas.Bool.{false≢true}
-use Rattle.std.proofs.lemmas.Bool.Decides.{eqb_tells}
+use Rattle.std.proofs.lemmas.Bool.{cases_eq, false≢true}
 use Rattle.std.proofs.lemmas.List.{get_or-set_same, get_or-set_other, length-set}
 use Rattle.std.proofs.lemmas.List.Sums.{sum_by-set}
 use Rattle.std.proofs.lemmas.Option.{get_or_from_slice_get}
@@ -32,22 +31,19 @@ reached_marked ts marks s t closed r m = walk_marked ts marks closed s t r.lette
 
 -- ---- marks
 
-pub same_number : (m n : ℕ) → (m ≡ n) ⊎ (m ≢ n)
-same_number m n = elim (eqb_tells m n) [ inl h ↦ inl h.1 | inr h ↦ inr h.1 ]
-
 pub marked : (marks : List Bool) (u : ℕ) → u < length marks → get_or (set marks u true) u false ≡ true
 marked marks u b = get_or-set_same marks u true false b
 
 pub still_marked : (marks : List Bool) (u t : ℕ) → u < length marks → get_or marks t false ≡ true → get_or (set marks u true) t false ≡ true
 still_marked marks u t b m =
-    elim (same_number t u) [
+    elim (cases_eq t u) [
       | inl e ↦ ap (λ (k : ℕ). get_or (set marks u true) k false) e ∙ marked marks u b
       | inr ne ↦ get_or-set_other marks u t true false ne ∙ m
     ]
 
 pub was_marked : (marks : List Bool) (u t : ℕ) → get_or (set marks u true) t false ≡ true → (get_or marks t false ≡ true) ⊎ (t ≡ u)
 was_marked marks u t m =
-    elim (same_number t u) [
+    elim (cases_eq t u) [
       | inl e ↦ inr e
       | inr ne ↦ inl (sym (get_or-set_other marks u t true false ne) ∙ m)
     ]

@@ -5,7 +5,7 @@
 -- yet, and the crossed side has two corners of the new triangle at its ends. A new tree begins at a triangle that no walk
 -- reaches from the marked ones, so that no two trees share a component.
 use Rattle.std.proofs.Common.{ℕ, zero, suc, ℤ, pos, negsuc, Bool, true, false, not, cond, List, [], ◌∷◌, ◌≡◌, ◌≢◌, ◌≤◌, ◌<◌, ◌+◌, ◌*◌, ◌⊎◌, inl, inr, refl, sym, ◌∙◌, ap, subst, arith, length, get_or, set, replicate}
-use Rattle.std.proofs.lemmas.Bool.{cases_Bool, false≢true}
+use Rattle.std.proofs.lemmas.Bool.{cases_Bool, cases_eq, false≢true}
 use Rattle.std.proofs.lemmas.List.{length-set, length-replicate, get_or-set_other}
 use Rattle.std.proofs.lemmas.List.Folds.{sum_by-replicate}
 use Rattle.std.proofs.lemmas.List.Sums.{sum_by-cons, sum_by-set}
@@ -15,7 +15,7 @@ use Rattle.ideal_tri.specs.SurfaceLaws.{TriangleLaws}
 use Rattle.ideal_tri.specs.Vertices.{corner_step}
 use Rattle.ideal_tri.proofs.Labels.{inverse-inverse, inverse_label, edge_of-inverse}
 use Rattle.ideal_tri.proofs.Walks.{reached_here, reached_step, reached_along, reached_back}
-use Rattle.ideal_tri.proofs.Reaching.{IsClosed, reached_marked, same_number, marked, still_marked, was_marked, unmarked}
+use Rattle.ideal_tri.proofs.Reaching.{IsClosed, reached_marked, marked, still_marked, was_marked, unmarked}
 
 -- ---- names of corners
 
@@ -204,7 +204,7 @@ joined_before : (ts : List (List ℤ)) → TriangleLaws ts → (trees : ℕ) (re
     → (f : ℤ → ℤ) → IsVertexwise ts f → AreJoined ts (set reached (triangle_of ts (inverse x)) true) (set tree (edge_of x) true) f
     → AreJoined ts reached tree f
 joined_before ts h trees reached tree x g c f v joined u k at free =
-    elim (same_number (edge_of u) (edge_of x)) [
+    elim (cases_eq (edge_of u) (edge_of x)) [
       | inr ne ↦
           joined u k (still_marked reached (triangle_of ts (inverse x)) (triangle_of ts u) below at)
           (get_or-set_other tree (edge_of x) (edge_of u) true false ne ∙ free)

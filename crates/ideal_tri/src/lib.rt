@@ -12,14 +12,19 @@
 #![tactic(auto)]
 
 mod component;
+mod images;
 mod label;
 mod laws;
 mod memory;
 mod tri;
 mod vertex;
 
+pub use images::inverse_images;
 pub use label::Label;
-pub use laws::{component_laws, flip_laws, surface_laws, triple_laws, vertex_laws, word_laws};
+pub use laws::{
+    bijection_laws, component_laws, flip_laws, hit_laws, label_laws, relabelling_laws,
+    surface_laws, triple_laws, vertex_laws, word_laws,
+};
 pub use memory::Memory;
 pub use tri::{Tri, TriError};
 pub use vertex::VertexId;
