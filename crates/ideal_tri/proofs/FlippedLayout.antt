@@ -5,7 +5,7 @@ use Rattle.std.proofs.Math.Seq.{take-set-lt}
 use Rattle.ideal_tri.specs.Labels.{inverse}
 use Rattle.ideal_tri.specs.Triangulations.{labels_of, IsLabel, IsTriangulation, triangle_of, next, previous}
 use Rattle.ideal_tri.specs.Flips.{IsFlippable, flipped}
-use Rattle.ideal_tri.specs.Places.{with_places, places_of, IsGlued, IsLaidOut}
+use Rattle.ideal_tri.specs.inside.Places.{with_places, places_of, IsGlued, IsLaidOut}
 use Rattle.ideal_tri.proofs.Tables.{glued, AreChanged, changed_table}
 use Rattle.ideal_tri.proofs.FlippedTriangulation.{flip_laws}
 

@@ -5,7 +5,7 @@ use Rattle.std.proofs.lemmas.List.Elements.{All-set}
 use Rattle.ideal_tri.specs.Labels.{inverse, edge_of}
 use Rattle.ideal_tri.specs.Triangulations.{labels_of, IsLabel, IsWalk, IsReached, IsTriangulation, IsConnected, triangle_of, next, previous}
 use Rattle.ideal_tri.specs.Flips.{IsFlippable, flipped}
-use Rattle.ideal_tri.specs.FlipLaws.{IsOutside, FlipLaws}
+use Rattle.ideal_tri.specs.FlipLaws.{IsOutside, OneFlipLaws}
 use Rattle.ideal_tri.proofs.Labels.{inverse-inverse, inverse_label, same_or_not}
 use Rattle.ideal_tri.proofs.Triangles.{times, IsOnce-triangulation}
 use Rattle.ideal_tri.proofs.Walks.{reached_here, reached_step, reached_along, reached_back}
@@ -187,7 +187,7 @@ flipped-triangulation triples e can = record {
       ∙ ap (λ (n : ℕ). cond (nat_lt (edge_of x) (3 * n / 2)) 1 0) (sym (flipped-length triples e));
 }
 
-laws_of : (triples : List (List ℤ)) (e : ℤ) → CanFlip triples e → FlipLaws triples e
+laws_of : (triples : List (List ℤ)) (e : ℤ) → CanFlip triples e → OneFlipLaws triples e
 laws_of triples e can = record {
   triangulation = flipped-triangulation triples e can;
   edges = ap (λ (n : ℕ). 3 * n / 2) (flipped-length triples e);
@@ -209,5 +209,5 @@ laws_of triples e can = record {
   stays = flipped-stays triples e can;
 }
 
-pub flip_laws : (triples : List (List ℤ)) (e : ℤ) → IsTriangulation triples → IsLabel triples e → IsFlippable triples e → FlipLaws triples e
+pub flip_laws : (triples : List (List ℤ)) (e : ℤ) → IsTriangulation triples → IsLabel triples e → IsFlippable triples e → OneFlipLaws triples e
 flip_laws triples e whole label flippable = laws_of triples e (record { whole = whole; label = label; flippable = flippable })

@@ -2,7 +2,7 @@
 use Rattle.std.proofs.Common.{ℕ, ℤ, List, ◌++◌, ◌≡◌, ◌≤◌, ◌+◌, ◌-◌, refl, sym, ◌∙◌, ap, subst, arith, length, take, drop, length-append}
 use Rattle.std.proofs.lemmas.List.{take_at, drop_at}
 use Rattle.ideal_tri.specs.Triangulations.{IsTriangulation}
-use Rattle.ideal_tri.specs.Places.{spare_triples, IsGlued, IsLaidOut}
+use Rattle.ideal_tri.specs.inside.Places.{spare_triples, IsGlued, IsLaidOut}
 use Rattle.ideal_tri.proofs.Places.{small_size, length-spare_triples}
 use Rattle.ideal_tri.proofs.Counting.{AreAllLabels, label_counts}
 use Rattle.ideal_tri.proofs.Sides.{all_there}

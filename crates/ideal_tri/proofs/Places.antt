@@ -5,7 +5,7 @@ use Rattle.std.proofs.lemmas.List.{length-set, get_or-set_same, get_or-set_other
 use Rattle.ideal_tri.specs.Labels.{edge_of}
 use Rattle.ideal_tri.specs.Triangulations.{labels_of, edge_count, IsLabel}
 use Rattle.ideal_tri.specs.Refusals.{IsOfGoodSize}
-use Rattle.ideal_tri.specs.Places.{key_of, with_places, places_of, spare_triples, IsPlaced}
+use Rattle.ideal_tri.specs.inside.Places.{key_of, with_places, places_of, spare_triples, IsPlaced}
 use Rattle.ideal_tri.proofs.Labels.{same_or_not}
 
 -- ---- keys

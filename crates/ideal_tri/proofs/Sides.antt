@@ -9,7 +9,7 @@ use Rattle.std.proofs.lemmas.List.Folds.{list_any_at, list_any_none}
 use Rattle.ideal_tri.specs.Labels.{inverse, edge_of}
 use Rattle.ideal_tri.specs.Triangulations.{labels_of, IsLabel, has_side, triangle_of, place_in, side_of, next_in, next}
 use Rattle.ideal_tri.specs.Refusals.{IsDistinct}
-use Rattle.ideal_tri.specs.Places.{key_of, label_at, IsGlued, IsLaidOut}
+use Rattle.ideal_tri.specs.inside.Places.{key_of, label_at, IsGlued, IsLaidOut}
 use Rattle.ideal_tri.proofs.Labels.{int_eq-same, int_eq-other}
 use Rattle.ideal_tri.proofs.Places.{small_label}
 use Rattle.ideal_tri.proofs.Counting.{count, never, length-labels_of, AreAllLabels, all_labels}

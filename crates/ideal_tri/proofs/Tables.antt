@@ -8,7 +8,7 @@ use Rattle.std.proofs.lemmas.List.Elements.{All-head, All-tail, All-from_get_or}
 use Rattle.ideal_tri.specs.Labels.{edge_of}
 use Rattle.ideal_tri.specs.Triangulations.{labels_of, edge_count, IsLabel, IsTriangulation}
 use Rattle.ideal_tri.specs.Refusals.{IsDistinct, IsOfGoodSize}
-use Rattle.ideal_tri.specs.Places.{key_of, label_at, with_places, places_of, IsPlaced, IsGlued}
+use Rattle.ideal_tri.specs.inside.Places.{key_of, label_at, with_places, places_of, IsPlaced, IsGlued}
 use Rattle.ideal_tri.proofs.Places.{key_below, key_apart, none_placed, next_placed, small_label}
 use Rattle.ideal_tri.proofs.Counting.{count, hit, count-cons, hit_same, lt_or_le, length-labels_of}
 use Rattle.ideal_tri.proofs.Sides.{Stands, stands, IsFound, found, is_label_at}

@@ -15,7 +15,7 @@ use Rattle.ideal_tri.specs.Components.{least_triangle, component_count}
 use Rattle.ideal_tri.specs.Refusals.{IsDistinct}
 use Rattle.ideal_tri.specs.SurfaceLaws.{TriangleLaws}
 use Rattle.ideal_tri.specs.Vertices.{rank, label_of_rank, ordered_labels, corner_step, IsSameVertex, least_corner, first_corners, first_corners_below, vertex_of, vertex_count}
-use Rattle.ideal_tri.specs.VertexLaws.{VertexLaws, PunctureLaws}
+use Rattle.ideal_tri.specs.VertexLaws.{PunctureLaws, VertexLaws}
 use Rattle.ideal_tri.proofs.Labels.{int_eq-same, int_eq-other}
 use Rattle.ideal_tri.proofs.Counting.{at_most_once}
 use Rattle.ideal_tri.proofs.Triangles.{times, label_of_counted, triangle_laws}
@@ -313,8 +313,8 @@ vertex_bound ts h sound = go (forest ts sound)
 
 -- ---- the laws
 
-vertex_laws_of : (ts : List (List ℤ)) → TriangleLaws ts → IsTriangulation ts → VertexLaws ts
-vertex_laws_of ts h t = record {
+puncture_laws : (ts : List (List ℤ)) → TriangleLaws ts → IsTriangulation ts → PunctureLaws ts
+puncture_laws ts h t = record {
   same = vertex_same ts h;
   within = vertex_within ts h;
   there = λ x l. least_corner_there ts x;
@@ -323,5 +323,5 @@ vertex_laws_of ts h t = record {
   bound = vertex_bound ts h t;
 }
 
-pub puncture_laws : PunctureLaws
-puncture_laws = record { vertices = λ ts t. vertex_laws_of ts (triangle_laws ts t) t }
+pub vertex_laws : VertexLaws
+vertex_laws = record { vertices = λ ts t. puncture_laws ts (triangle_laws ts t) t }

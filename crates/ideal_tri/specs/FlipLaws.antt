@@ -17,7 +17,7 @@ IsOutside triples e x =
     × (x ≢ inverse e) × (x ≢ next triples (inverse e)) × (x ≢ previous triples (inverse e))
 
 -- one flip: (e,a,b) and (~e,c,d) become (e,d,a) and (~e,b,c)
-pub record FlipLaws (triples : List (List ℤ)) (e : ℤ) : Type 0 where
+pub record OneFlipLaws (triples : List (List ℤ)) (e : ℤ) : Type 0 where
   pub triangulation : IsTriangulation (flipped triples e)
   pub edges : edge_count (flipped triples e) ≡ edge_count triples
   -- what a walk joins stays joined
@@ -38,5 +38,5 @@ pub record FlipLaws (triples : List (List ℤ)) (e : ℤ) : Type 0 where
       → triangle_of (flipped triples e) x ≡ triangle_of triples x
 
 -- for every flippable label of a triangulation
-pub record QuadrilateralLaws : Type 0 where
-  pub flips : (triples : List (List ℤ)) (e : ℤ) → IsTriangulation triples → IsLabel triples e → IsFlippable triples e → FlipLaws triples e
+pub record FlipLaws : Type 0 where
+  pub flips : (triples : List (List ℤ)) (e : ℤ) → IsTriangulation triples → IsLabel triples e → IsFlippable triples e → OneFlipLaws triples e

@@ -4,9 +4,9 @@
 ghost use Rattle.ideal_tri.specs.LabelLaws.{LabelLaws};
 ghost use Rattle.ideal_tri.specs.WordLaws.{WordLaws};
 ghost use Rattle.ideal_tri.specs.SurfaceLaws.{SurfaceLaws};
-ghost use Rattle.ideal_tri.specs.FlipLaws.{QuadrilateralLaws};
+ghost use Rattle.ideal_tri.specs.FlipLaws.{FlipLaws};
 ghost use Rattle.ideal_tri.specs.TripleLaws.{TripleLaws};
-ghost use Rattle.ideal_tri.specs.VertexLaws.{PunctureLaws};
+ghost use Rattle.ideal_tri.specs.VertexLaws.{VertexLaws};
 ghost use Rattle.ideal_tri.specs.ComponentLaws.{ComponentLaws};
 ghost use Rattle.ideal_tri.specs.HitLaws.{HitLaws};
 ghost use Rattle.ideal_tri.specs.BijectionLaws.{BijectionLaws};
@@ -29,7 +29,7 @@ pub fn surface_laws()
 
 /// What is proved of the flip of an edge.
 pub fn flip_laws()
-    ensures { QuadrilateralLaws }
+    ensures { FlipLaws }
 {}
 
 /// What is proved of the triples of a triangulation, read from any of their sides.
@@ -39,7 +39,7 @@ pub fn triple_laws()
 
 /// What is proved of the vertices of a triangulation: how they are numbered, and that there are no more than on spheres.
 pub fn vertex_laws()
-    ensures { PunctureLaws }
+    ensures { VertexLaws }
 {}
 
 /// What is proved of the components of a triangulation: how they are numbered, and that none is a single triangle.

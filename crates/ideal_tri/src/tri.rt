@@ -3,7 +3,7 @@ ghost use Rattle.std.specs.Prelude.{◌≡◌, ◌≢◌, ◌<◌, ◌≤◌, �
 ghost use Rattle.ideal_tri.specs.Labels.{inverse, edge_of};
 ghost use Rattle.ideal_tri.specs.Triangulations.{labels_of, edge_count, triangle_of, side_of, next, IsLabel, IsTriangulation, IsConnected};
 ghost use Rattle.ideal_tri.specs.Refusals.{IsOfGoodSize, IsFirstOutside, IsFirstRepeated, IsRefusedGluing, IsRefusedFor};
-ghost use Rattle.ideal_tri.specs.Places.{key_of, with_places, spare_triples, IsGlued};
+ghost use Rattle.ideal_tri.specs.inside.Places.{key_of, with_places, spare_triples, IsGlued};
 ghost use Rattle.ideal_tri.specs.Flips.{IsFlippable, flipped};
 
 use crate::component::first_unreached;
@@ -55,8 +55,8 @@ impl Model for Tri {
     ghost use Rattle.std.specs.Prelude.{ℤ, List, ◌++◌, ◌-◌, length, take};
     ghost use Rattle.std.proofs.Common.{sym};
     ghost use Rattle.ideal_tri.specs.Triangulations.{labels_of};
-    ghost use Rattle.ideal_tri.specs.Places.{IsLaidOut, spare_triples, places_of};
-    ghost use Rattle.ideal_tri.specs.LaidOut.{count_again, sides_again};
+    ghost use Rattle.ideal_tri.specs.inside.Places.{IsLaidOut, spare_triples, places_of};
+    ghost use Rattle.ideal_tri.specs.inside.LaidOut.{count_again, sides_again};
 
     ghost Value = { List (List ℤ) };
 

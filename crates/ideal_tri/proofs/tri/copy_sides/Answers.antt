@@ -1,5 +1,5 @@
 use Rattle.std.proofs.Common.{◌≡◌, ◌∙◌, [], ◌∷◌, ℤ, List, pos, get_or, set, to_z, of_z, w32, ap, replicate, rules, arith}
-use Rattle.ideal_tri.specs.Places.{spare_triples}
+use Rattle.ideal_tri.specs.inside.Places.{spare_triples}
 use Rattle.ideal_tri.proofs.Places.{copied_next, all_copied, read_triple}
 use Rattle.ideal_tri.proofs.tri.copy_sides.Goals as goal
 

@@ -1,5 +1,5 @@
 use Rattle.std.proofs.Common.{◌≡◌, ◌++◌, ◌-◌, take}
-use Rattle.ideal_tri.specs.Places.{spare_triples}
+use Rattle.ideal_tri.specs.inside.Places.{spare_triples}
 use Rattle.ideal_tri.proofs.tri.copy_sides.Given as goal
 
 abbrev pub invariant-loop-t : goal.invariant-loop-t

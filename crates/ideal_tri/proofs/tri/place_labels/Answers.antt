@@ -2,7 +2,7 @@ use Rattle.std.proofs.Common.{◌≡◌, ◌<◌, ◌+◌, [], ℕ, ℤ, List, p
 use Rattle.std.proofs.lemmas.List.{take_all}
 use Rattle.std.proofs.lemmas.List.Elements.{All-from_get_or}
 use Rattle.ideal_tri.specs.Labels.{edge_of}
-use Rattle.ideal_tri.specs.Places.{key_of, IsPlaced}
+use Rattle.ideal_tri.specs.inside.Places.{key_of, IsPlaced}
 use Rattle.ideal_tri.proofs.Counting.{below_255}
 use Rattle.ideal_tri.proofs.Places.{none_placed, next_placed, small_read}
 use Rattle.ideal_tri.proofs.tri.place_labels.Goals as goal

@@ -1,7 +1,7 @@
 -- The fields of a `Tri` are those that its triples give.
 use Rattle.std.proofs.Common.{ℕ, ℤ, List, ◌++◌, ◌≡◌, ◌≤◌, ◌-◌, sym, ◌∙◌, ap, arith, length, take}
 use Rattle.std.proofs.lemmas.List.{length-take-le, take-append-drop}
-use Rattle.ideal_tri.specs.Places.{IsLaidOut, spare_triples}
+use Rattle.ideal_tri.specs.inside.Places.{IsLaidOut, spare_triples}
 
 pub count_again : (count : ℕ) (sides : List (List ℤ)) (places : List ℕ) → IsLaidOut count sides places → length (take count sides) ≡ count
 count_again count sides places h =
