@@ -97,7 +97,7 @@ pub told_triangulation : (told : Option (List (List ℤ))) (triples read : List 
 told_triangulation told triples read (Ok t) tells is accepted whole size refused = (
   cc,
   (
-    subst (λ (z : List (List ℤ)). edge_count z < 49) (sym accepted.1) size.few,
+    subst (λ (z : List (List ℤ)). edge_count z < 49) (sym accepted.1) (omega (arith, size.few)),
     subst IsTriangulation (sym accepted.1) accepted.0,
     whole,
   ),

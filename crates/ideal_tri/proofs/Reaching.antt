@@ -5,6 +5,7 @@ use Rattle.std.proofs.lemmas.Bool.{cases_eq, false≢true}
 use Rattle.std.proofs.lemmas.List.{get_or-set_same, get_or-set_other, length-set}
 use Rattle.std.proofs.lemmas.List.Sums.{sum_by-set}
 use Rattle.std.proofs.lemmas.Option.{get_or_from_slice_get}
+use Rattle.ideal_tri.specs.declared.tri.TheConstants.{TRIANGLES}
 use Rattle.ideal_tri.specs.Labels.{inverse}
 use Rattle.ideal_tri.specs.Triangulations.{labels_of, IsLabel, IsWalk, IsReached, IsTriangulation, triangle_of}
 use Rattle.ideal_tri.proofs.Triangles.{times, Triangle, label_of_counted, counted_once}
@@ -65,15 +66,15 @@ none_marked (suc n) zero = refl
 none_marked (suc n) (suc t) = none_marked n t
 
 -- at the start one triangle is marked
-pub marked_first : (ts : List (List ℤ)) (start t : ℕ) → get_or (set (replicate 32 false) start true) t false ≡ true → IsReached ts start t
+pub marked_first : (ts : List (List ℤ)) (start t : ℕ) → get_or (set (replicate TRIANGLES false) start true) t false ≡ true → IsReached ts start t
 marked_first ts start t m =
-    elim (was_marked (replicate 32 false) start t m) [
-      | inl old ↦ absurd (false≢true (sym (none_marked 32 t) ∙ old))
+    elim (was_marked (replicate TRIANGLES false) start t m) [
+      | inl old ↦ absurd (false≢true (sym (none_marked TRIANGLES t) ∙ old))
       | inr e ↦ reached_here ts start t (sym e)
     ]
 
-pub none_done : (t : ℕ) {P : Type 0} → get_or (replicate 32 false) t false ≡ true → P
-none_done t m = absurd (false≢true (sym (none_marked 32 t) ∙ m))
+pub none_done : (t : ℕ) {P : Type 0} → get_or (replicate TRIANGLES false) t false ≡ true → P
+none_done t m = absurd (false≢true (sym (none_marked TRIANGLES t) ∙ m))
 
 -- ---- the neighbours of a triangle
 

@@ -73,10 +73,10 @@ fn least_triangle(tri: &Tri, t: u32) -> u32
 /// Which triangles can be reached from a given one.
 fn reached_from(tri: &Tri, start: u32) -> [bool; TRIANGLES]
     requires { start < length tri.now }
-    ensures room { length result ≡ 32 }
+    ensures room { length result ≡ TRIANGLES }
     ensures reached { (t : ℕ) → t < length tri.now
         → (slice_index_or result t false ≡ true) ↔ IsReached tri.now start t }
-    ensures few { length tri.now ≤ 32 }
+    ensures few { length tri.now ≤ TRIANGLES }
     ensures sound { IsTriangulation tri.now }
 {
     let count = tri.triangles();
@@ -92,8 +92,8 @@ fn reached_from(tri: &Tri, start: u32) -> [bool; TRIANGLES]
 
 /// The first of `count` triangles that is reached, but whose neighbours are not marked yet.
 fn first_open(reached: &[bool; TRIANGLES], done: &[bool; TRIANGLES], count: u32) -> Option<u32>
-    requires room { (length reached.now ≡ 32) × (length done.now ≡ 32) }
-    requires count { count ≤ 32 }
+    requires room { (length reached.now ≡ TRIANGLES) × (length done.now ≡ TRIANGLES) }
+    requires count { count ≤ TRIANGLES }
     ensures some { IfSome result (λ t. (t < count)
         × (slice_index_or reached.now t false ≡ true) × (slice_index_or done.now t false ≡ false)) }
     ensures none { IfNone result ((t : ℕ) → t < count
@@ -112,9 +112,9 @@ fn first_open(reached: &[bool; TRIANGLES], done: &[bool; TRIANGLES], count: u32)
 fn mark_neighbours(tri: &Tri, t: u32, reached: &mut [bool; TRIANGLES])
     requires sound { IsTriangulation tri.now }
     requires triangle { t < length tri.now }
-    requires few { length tri.now ≤ 32 }
-    requires room { length reached.old ≡ 32 }
-    ensures room { length reached.new ≡ 32 }
+    requires few { length tri.now ≤ TRIANGLES }
+    requires room { length reached.old ≡ TRIANGLES }
+    ensures room { length reached.new ≡ TRIANGLES }
     ensures kept { (u : ℕ) → slice_index_or reached.old u false ≡ true → slice_index_or reached.new u false ≡ true }
     ensures marked { (x : ℤ) → IsLabel tri.now x → triangle_of tri.now x ≡ t
         → slice_index_or reached.new (triangle_of tri.now (inverse x)) false ≡ true }

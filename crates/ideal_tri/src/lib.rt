@@ -26,5 +26,5 @@ pub use laws::{
     surface_laws, triple_laws, vertex_laws, word_laws,
 };
 pub use memory::Memory;
-pub use tri::{Tri, TriError};
+pub use tri::{EDGES, Tri, TriError};
 pub use vertex::VertexId;

@@ -10,14 +10,14 @@ use crate::component::first_unreached;
 use crate::label::Label;
 use std::marker::Model;
 
-// The most edges of a triangulation.
-const EDGES: u64 = 48;
+/// The most edges of a triangulation.
+pub const EDGES: usize = 48;
 
-// The most triangles of a triangulation: two for each three edges.
-pub(crate) const TRIANGLES: usize = 32;
+/// The most triangles of a triangulation: two for each three edges.
+pub(crate) const TRIANGLES: usize = 2 * EDGES / 3;
 
-// How many labels the most edges have: two for each.
-const LABELS: usize = 96;
+/// How many labels the most edges have: two for each.
+pub(crate) const LABELS: usize = 2 * EDGES;
 
 // The entry of a label that stands nowhere.
 const NOWHERE: u8 = 255;
@@ -32,7 +32,7 @@ pub struct Tri {
     count: u32,
     // the labels round each triangle; zeros after the last
     sides: [[Label; 3]; TRIANGLES],
-    // at `x + 48`, where `x` stands: three times its triangle's number, plus its side's
+    // at `x + EDGES`, where `x` stands: three times its triangle's number, plus its side's
     place: [u8; LABELS],
 }
 
@@ -41,7 +41,7 @@ pub struct Tri {
 pub enum TriError {
     /// There is no triple.
     NoTriangle,
-    /// There are more than 48 edges; their number, three for each two triangles, rounded down.
+    /// There are more than `EDGES` edges; their number, three for each two triangles, rounded down.
     TooManyEdges(u64),
     /// The first label read that is none of `-n` to `n - 1`, with `n` edges.
     LabelRange(i32),
@@ -57,6 +57,7 @@ impl Model for Tri {
     ghost use Rattle.ideal_tri.specs.Triangulations.{labels_of};
     ghost use Rattle.ideal_tri.specs.inside.Places.{IsLaidOut, spare_triples, places_of};
     ghost use Rattle.ideal_tri.specs.inside.LaidOut.{count_again, sides_again};
+    ghost use Rattle.ideal_tri.specs.declared.tri.TheConstants.{TRIANGLES};
 
     ghost Value = { List (List ℤ) };
 
@@ -66,7 +67,7 @@ impl Model for Tri {
 
     ghost inverse = { λ ts. record {
       count = length ts;
-      sides = ts ++ spare_triples (32 - length ts);
+      sides = ts ++ spare_triples (TRIANGLES - length ts);
       place = places_of (labels_of ts);
     } };
 
@@ -105,7 +106,7 @@ impl Tri {
             return Err(TriError::NoTriangle);
         }
         let edges = edge_count(triples);
-        if edges > EDGES {
+        if edges > EDGES as u64 {
             return Err(TriError::TooManyEdges(edges));
         }
         if let Some(x) = first_outside(triples) {
@@ -122,7 +123,7 @@ impl Tri {
         })
     }
 
-    /// How many edges there are: three for each two triangles, at most 48.
+    /// How many edges there are: three for each two triangles, at most `EDGES`.
     pub fn edges(&self) -> u32
         ensures count { result ≡ edge_count self.now }
         ensures size { IsOfGoodSize self.now }
@@ -228,11 +229,11 @@ fn first_outside(triples: &[[i32; 3]]) -> Option<i32>
 
 // Where the place of a label is kept.
 fn key(x: Label) -> usize
-    requires { edge_of x < 48 }
+    requires { edge_of x < EDGES }
     ensures key { result ≡ key_of x }
-    ensures room { result < 96 }
+    ensures room { result < LABELS }
 {
-    (x.get() + 48) as usize
+    (x.get() + EDGES as i32) as usize
 }
 
 // Where each label stands among all that are read, or the first label that is read a second time.
@@ -256,8 +257,8 @@ fn place_labels(triples: &[[i32; 3]]) -> Result<[u8; LABELS], i32>
 
 // Writes down where the sides of a triangle stand.
 fn write_places(place: &mut [u8; LABELS], triangle: u32, x: Label, y: Label, z: Label)
-    requires triangle { triangle < 32 }
-    requires labels { (edge_of x < 48) × (edge_of y < 48) × (edge_of z < 48) }
+    requires triangle { triangle < TRIANGLES }
+    requires labels { (edge_of x < EDGES) × (edge_of y < EDGES) × (edge_of z < EDGES) }
     ensures { place.new ≡ with_places place.old (3 * triangle) (x ∷ y ∷ z ∷ []) }
 {
     let at = (3 * triangle) as u8;
@@ -268,8 +269,8 @@ fn write_places(place: &mut [u8; LABELS], triangle: u32, x: Label, y: Label, z: 
 
 // The triples as labels, and zeros after them.
 fn copy_sides(triples: &[[i32; 3]]) -> [[Label; 3]; TRIANGLES]
-    requires { length triples.now ≤ 32 }
-    ensures { result ≡ triples.now ++ spare_triples (32 - length triples.now) }
+    requires { length triples.now ≤ TRIANGLES }
+    ensures { result ≡ triples.now ++ spare_triples (TRIANGLES - length triples.now) }
 {
     let mut sides = [[Label::new(0); 3]; TRIANGLES];
     for t in 0..triples.len() {

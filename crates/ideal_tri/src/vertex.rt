@@ -3,6 +3,7 @@
 //! The corner named `x` lies at the head of the side `x`, between `x` and the side after it. Labels are ordered 0, -1, 1,
 //! -2, 2 and so on; each vertex is named by its least corner, and vertices are numbered in the order of these.
 ghost use Rattle.std.specs.Prelude.{◌≡◌, ◌<◌, ◌≤◌, ◌*◌, length};
+ghost use Rattle.ideal_tri.specs.declared.tri.TheConstants.{EDGES, LABELS};
 ghost use Rattle.ideal_tri.specs.Labels.{edge_of};
 ghost use Rattle.ideal_tri.specs.Triangulations.{IsLabel, IsTriangulation, edge_count};
 ghost use Rattle.ideal_tri.specs.Refusals.{IsOfGoodSize};
@@ -67,7 +68,7 @@ impl Tri {
 
 // The place of a label in the order of labels.
 fn rank(x: Label) -> u32
-    requires { edge_of x < 48 }
+    requires { edge_of x < EDGES }
     ensures { result ≡ rank x }
 {
     let first = 2 * x.edge();
@@ -76,7 +77,7 @@ fn rank(x: Label) -> u32
 
 // The label at a place in their order.
 fn label_of_rank(k: u32) -> Label
-    requires { k < 96 }
+    requires { k < LABELS }
     ensures { result ≡ label_of_rank k }
 {
     let first = Label::new((k / 2) as i32);
@@ -85,7 +86,7 @@ fn label_of_rank(k: u32) -> Label
 
 // The one of two labels that comes first in their order.
 fn lesser(x: Label, y: Label) -> Label
-    requires { (edge_of x < 48) × (edge_of y < 48) }
+    requires { (edge_of x < EDGES) × (edge_of y < EDGES) }
     ensures { result ≡ least_label x y }
 {
     if rank(y) < rank(x) { y } else { x }
