@@ -7,7 +7,8 @@ accepted c = triangulation c.args.triples.now c.in-Ok.place c.in-Ok.ensures.plac
 
 pub invariant_of-result : goal.invariant_of-result
 invariant_of-result c =
-    laid_out c.args.triples.now c.copy_sides.result c.in-Ok.place c.in-Ok.ensures.placed (accepted c) c.copy_sides.ensures
+    laid_out c.args.triples.now c.copy_sides.result c.in-Ok.place c.in-Ok.ensures.placed (accepted c)
+    c.copy_sides.ensures
 
 pub returns-clause-accepted : goal.returns-clause-accepted
 returns-clause-accepted c = (accepted c, view_again c.args.triples.now c.copy_sides.result c.copy_sides.ensures)
