@@ -1,4 +1,13 @@
--- The numbers of the components: how they are counted by their least triangles, and that none is a single triangle.
+-- The numbers of the components: they are counted by their least triangles, and none is a single triangle.
+--
+-- That a walk joins two triangles is an equivalence, and decided by a test. So the first triangle that the test finds
+-- joined to t is the least of the component of t: it is joined to t, and it is the same for all triangles of the
+-- component. It is its own least triangle. The number of a component is the number of such least triangles before its
+-- own. It grows with the least triangle, so that it tells components apart, and each number below their count is
+-- taken. A triangulation has one component exactly where all triangles have the number of triangle 0.
+--
+-- Each triangle has a side whose other side lies in another triangle: if the inverses of all three sides a, b, c were
+-- again among a, b, c, they would come in pairs, since no label is its own inverse; but three is odd.
 use Rattle.std.proofs.Common.{ℕ, suc, ℤ, Bool, true, false, List, ◌≡◌, ◌≢◌, ◌≤◌, ◌<◌, ◌+◌, ◌⊎◌, ◌↔◌, inl, inr, refl}
 use Rattle.std.proofs.Common.{sym, ◌∙◌, ap, subst, arith, eqb, length, get_or}
 use Rattle.std.specs.List.{range_with_len}

@@ -1,4 +1,9 @@
 -- Counting labels: 3 T labels that are different and within the range are all the labels of the range.
+--
+-- Let there be ζ edges, with the labels from -ζ to ζ - 1. A list of such labels has as many entries as the counts of
+-- all labels together. Where its entries are different, no count is above 1. So it has at most 2 ζ entries; and where
+-- it has as many, each count is 1. The sides of T triangles are 3 T labels, and ζ is 3 T / 2, rounded down. They are
+-- no more than 2 ζ, so that 3 T is even, and each label of the range stands there exactly once.
 use Rattle.std.proofs.Common.{ℕ, ℤ, pos, negsuc, Bool, cond, List, [], ◌∷◌, ◌≡◌, ◌≢◌, ◌≤◌, ◌<◌, ◌+◌, ◌*◌, ◌/◌, suc}
 use Rattle.std.proofs.Common.{zero, ◌⊎◌, inl, inr, refl, sym, ◌∙◌, ap, arith, length, get_or, ltb, length-append}
 use Rattle.std.specs.List.{All, count_by}

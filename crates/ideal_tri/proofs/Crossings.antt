@@ -1,4 +1,11 @@
 -- The words of a drawing cross each edge as often as the vector says.
+--
+-- A drawing uses each strand once, counting both directions. A state at the label x and the place j passes one strand
+-- of the edge of x: the one with number j, seen from the side that isn't negative, or the one with number w - 1 - j,
+-- where w is the weight of the edge. So for each state on an edge the passes of all strands of the edge add up to one,
+-- and for a state elsewhere to none. Summed over all states, the number of states on an edge is the sum of the uses of
+-- its strands. Each is one, and there are as many strands as the weight. The letters of the words are the labels of
+-- the states.
 use Rattle.std.proofs.Common.{ℕ, ℤ, pos, negsuc, zero, suc, Bool, true, false, cond, eqb, List, [], ◌∷◌, ◌++◌, ◌≡◌, ◌≢◌}
 use Rattle.std.proofs.Common.{◌<◌, ◌+◌, ◌-◌, inl, inr, refl, sym, ◌∙◌, ap, subst, arith}
 use Rattle.std.specs.List.{All, count_by, flat_map}

@@ -1,4 +1,15 @@
 -- The cyclic reduction of closed words: its shape, and that conjugate words have it up to rotation.
+--
+-- The reduction of w is p c p⁻¹, with c cyclically reduced: as long as the two ends are inverse to each other, they
+-- are taken off together. The word is short, so that this ends, and more steps than the word has letters change
+-- nothing.
+--
+-- Let core be what is left of a reduced word. A letter x in front of a reduced word w, or at its end, gives the same
+-- core up to rotation. If x cancels at neither end, the two words are rotations of each other, and so are their cores:
+-- both are cyclically reduced, or the ends of both match. If it cancels at one end alone, x w and w x are w without
+-- its last letter and x w, or the other way round. If it cancels at both, w begins and ends with the inverse of x. By
+-- this, letter by letter, rotations and conjugates of a word have the same cyclic reduction up to rotation.
+-- Conversely, where u = p (a b) p⁻¹ and v = r (b a) r⁻¹, the word p a r⁻¹ conjugates u to v.
 use Rattle.std.proofs.Common.{ℕ, ℤ, zero, suc, Bool, cond, List, [], ◌∷◌, ◌++◌, ◌≡◌, ◌≢◌, ◌≤◌, inl, inr, refl, sym, ◌∙◌}
 use Rattle.std.proofs.Common.{ap, subst, append_assoc, arith, length, length-append}
 use Rattle.std.specs.List.{All}

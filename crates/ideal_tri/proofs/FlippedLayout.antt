@@ -1,4 +1,9 @@
 -- The fields after a flip hold the flipped triangulation.
+--
+-- The array of triples changes at the two triangles of the edge alone, and the flipped triangulation is the old list
+-- with these two entries set. It is a triangulation of as many edges, so that it has a table of places, and the table
+-- of the old one with the six sides of the two triangles written anew is that table: all other labels stand where they
+-- stood. So the fields are those that the inverse of the model gives of the flipped list.
 use Rattle.std.proofs.Common.{ℕ, ℤ, List, [], ◌∷◌, ◌≡◌, ◌≤◌, ◌<◌, ◌*◌, sym, ◌∙◌, ap, subst, arith, length, take, set}
 use Rattle.std.proofs.Common.{get_or}
 use Rattle.std.proofs.lemmas.List.{length-set, get_or-set_same, get_or-set_other, drop-set-lt, length-take-le}

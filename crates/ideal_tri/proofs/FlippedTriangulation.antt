@@ -1,4 +1,11 @@
 -- The flip of an edge of a triangulation is a triangulation, and what stands where in it.
+--
+-- Let (e,a,b) and (~e,c,d) be the two triangles, which are different. Afterwards (e,d,a) and (~e,b,c) stand in their
+-- places. The six sides are the same labels as before, so each label still stands once. All but b and d keep their
+-- triangle, and labels outside the two triangles keep the side after them.
+--
+-- What a walk joins stays joined: the edge e joins its two triangles before and after, so that the old triangle of
+-- each label is joined to its new one, and with it the old triangle of x to that of ~x.
 use Rattle.std.proofs.Common.{ℕ, ℤ, pos, negsuc, List, [], ◌∷◌, ◌≡◌, ◌≢◌, ◌<◌, ◌*◌, ◌/◌, ◌⊎◌, inl, inr, cond, nat_lt}
 use Rattle.std.proofs.Common.{refl, sym, ◌∙◌, ap, subst, length, set}
 use Rattle.std.proofs.lemmas.List.{set_comm}

@@ -1,4 +1,10 @@
 -- Which label stands where before and after the flip of an edge.
+--
+-- Two different triangles i and j have the sides e, a, b and f, c, d. Their triples, begun at any of the three sides,
+-- are replaced by e, d, a and f, b, c; nothing else changes. As multisets the six labels are the same, so no label
+-- stands more often than before, and a label that stood once stands once. So the new triple at a place gives the
+-- triangle of its labels and the side after each. The six labels are different: those of one triangle, since it has
+-- three sides, and those of two triangles, since a label stands in one triangle only.
 use Rattle.std.proofs.Common.{ℕ, zero, suc, ℤ, pos, List, [], ◌∷◌, ◌≡◌, ◌≢◌, ◌≤◌, ◌<◌, ◌+◌, ◌⊎◌, inl, inr, cond, refl}
 use Rattle.std.proofs.Common.{sym, ◌∙◌, ap, subst, arith, length, get_or, set}
 use Rattle.std.specs.List.{All, sum_by}

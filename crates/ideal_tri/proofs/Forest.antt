@@ -1,8 +1,11 @@
 -- A forest of triangles, one tree for each component, and the edges that it does not cross.
+--
 -- Trees grow from the least triangle of each component, in the order of the triangles, each until no side leads out of
--- it: then all that a walk reaches from it is marked. With T triangles, ζ edges and C components the trees cross T - C
--- edges, and the other ζ - T + C edges join the vertices of each component. So there are at most C more vertices than
--- such edges: V ≤ ζ - T + 2 C.
+-- it: then all that a walk reaches from it is marked. The next triangle that isn't marked is the least of its
+-- component, since a walk from a lesser one would have marked it.
+--
+-- With T triangles, ζ edges and C components the trees cross T - C edges, and the other ζ - T + C edges join the
+-- vertices of each component. So there are at most C more vertices than such edges: V ≤ ζ - T + 2 C.
 use Rattle.std.proofs.Common.{ℕ, zero, suc, ℤ, Bool, true, false, not, ◌&&◌, cond, List, ◌≡◌, ◌≤◌, ◌<◌, ◌+◌, ◌*◌, ◌⊎◌}
 use Rattle.std.proofs.Common.{inl, inr, sym, ◌∙◌, ap, subst, arith, length, get_or, set, replicate}
 use Rattle.std.proofs.lemmas.Bool.{cases_lt, and_parts, and_cases, not-true, not-false}
@@ -19,8 +22,9 @@ use Rattle.ideal_tri.proofs.Reaching.{IsClosed, reached_marked, marked, still_ma
 use Rattle.ideal_tri.proofs.Numbering.{passing-le, passing-yes, one_or_none}
 use Rattle.ideal_tri.proofs.Components.{is_first_triangle, first_if_none}
 use Rattle.ideal_tri.proofs.Turning.{label_of_rank-rank, rank_below, label_below}
-use Rattle.ideal_tri.proofs.Trees.{IsVertexwise, IsJoined, IsMarked, Grown, IsCrossing, marked_or_free, not_both}
-use Rattle.ideal_tri.proofs.Trees.{mark_one, none_unmarked, more_trees, grow, plant}
+use Rattle.ideal_tri.proofs.Naming.{IsVertexwise, IsJoined, mark_one, none_unmarked}
+use Rattle.ideal_tri.proofs.Trees.{IsMarked, Grown, IsCrossing, marked_or_free, not_both, grow}
+use Rattle.ideal_tri.proofs.Planting.{more_trees, plant}
 
 -- ---- a tree grows to its whole component
 

@@ -21,7 +21,9 @@ pub mod Flips
 pub mod FlippedTriangulation
 pub mod Turning
 pub mod Merging
+pub mod Naming
 pub mod Trees
+pub mod Planting
 pub mod Forest
 pub mod Vertices
 pub mod Tables

@@ -1,6 +1,10 @@
--- A graph with m edges and C parts has at most m + C vertices: along each edge the name of one vertex is replaced by
--- that of the other. At first each vertex has its own name. An edge takes one name away at most; in the end all
--- vertices of a part have one name, so at most C vertices still have their own.
+-- A graph with m edges and C parts has at most m + C vertices.
+--
+-- Each vertex has a name, at first its own. Along each edge the name of one end is replaced everywhere by the name of
+-- the other. Vertices with one name keep one name, and the two ends of each edge have one name from then on. A step
+-- takes its own name from one vertex at most. So at least as many vertices as there are, less m, still have their own
+-- name at the end. Where the edges join all vertices of a part, these have one name, which is that of at most one of
+-- them. So at most C vertices still have their own name.
 use Rattle.std.proofs.Common.{ℕ, zero, suc, ℤ, Bool, true, false, cond, List, [], ◌∷◌, ◌≡◌, ◌≢◌, ◌≤◌, ◌<◌, ◌+◌, ◌⊎◌}
 use Rattle.std.proofs.Common.{inl, inr, refl, sym, ◌∙◌, ap, arith, length, get_or}
 use Rattle.std.specs.List.{All, count_by}

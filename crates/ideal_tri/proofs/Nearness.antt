@@ -1,7 +1,9 @@
--- The test of walks: a walk joins two triangles exactly where one does that has no more letters than there are
--- triangles. Let near n hold of the triangles from which a walk of at most n letters goes to t. It grows with n. As
--- soon as near n and near (n + 1) are the same, crossing a side never leads out of near n, so that it holds of all
--- triangles from which any walk goes to t. Until then each step adds a triangle, and there are no more than T of them.
+-- The test of walks: one goes from s to t exactly where one does with no more letters than there are triangles.
+--
+-- Let near n hold of the triangles from which a walk of at most n letters goes to t. It grows with n. As soon as near
+-- n and near (n + 1) are the same, crossing a side never leads into near n from outside, so that near n holds of all
+-- triangles from which any walk goes to t. Until then each step adds a triangle, and there are no more than T of them:
+-- after n steps at most T - n triangles are far from t, or near n is complete. After T steps it is complete.
 use Rattle.std.proofs.Common.{ℕ, zero, suc, ℤ, Bool, true, not, ◌&&◌, List, [], ◌∷◌, ◌≡◌, ◌≤◌, ◌<◌, ◌+◌, ◌⊎◌, inl, inr}
 use Rattle.std.proofs.Common.{sym, ◌∙◌, ap, subst, ◌↔◌, arith, eqb, cond, length, get_or}
 use Rattle.std.specs.List.{Any, list_any}

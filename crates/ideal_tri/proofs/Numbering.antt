@@ -1,4 +1,11 @@
 -- How many numbers below k pass a test: the numbers that pass are numbered in their order.
+--
+-- Let c k be how many numbers below k pass. It grows by one past each number that passes, and stays past the others.
+-- So numbers that pass have different counts, in their order, and each number j below c n is the count of one: the
+-- last number k at which the count is still j passes.
+--
+-- Where each number that passes one test passes another, no more pass the first; and fewer do where some number passes
+-- the second alone. Whether any number below n passes is found by trying them all.
 use Rattle.std.proofs.Common.{ℕ, zero, suc, Bool, true, false, cond, [], ◌≡◌, ◌≤◌, ◌<◌, ◌+◌, ◌⊎◌, inl, inr, ap, subst}
 use Rattle.std.proofs.Common.{arith}
 use Rattle.std.specs.List.{count_by, range_with_len}

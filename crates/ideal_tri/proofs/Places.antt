@@ -1,4 +1,10 @@
 -- What the table of places knows of the labels that were written down.
+--
+-- Labels of at most EDGES edges have different keys below LABELS. At the key of a label the table has the number of
+-- the place where it was written down, or a mark that it was not. A label is written only where the mark stands, so
+-- all labels that are written are different; and it overwrites no other, since keys are different. So the invariant
+-- goes on by one label: what is not marked tells a place where the label stands, and what is marked stands nowhere.
+-- The triples are copied one after another, in front of zeros.
 use Rattle.std.proofs.Common.{ℕ, ℤ, pos, negsuc, List, [], ◌∷◌, ◌++◌, ◌≡◌, ◌≢◌, ◌≤◌, ◌<◌, ◌+◌, ◌-◌, ◌*◌, ◌/◌, suc, ◌⊎◌}
 use Rattle.std.proofs.Common.{inl, inr, refl, sym, ◌∙◌, ap, subst, arith, length, take, set, get_or, replicate}
 use Rattle.std.proofs.Common.{append_assoc}

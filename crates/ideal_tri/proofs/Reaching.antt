@@ -1,4 +1,9 @@
--- Which triangles can be reached: marks that crossing a side keeps hold all that is reached from a marked triangle.
+-- Which triangles can be reached: marks that crossing a side keeps hold all that is reached from a marked one.
+--
+-- If the marks are kept by crossing any side, they are kept along a walk, letter by letter. So where they hold one
+-- triangle of a component, they hold all of it. On the other hand nothing is marked but what is reached: at the start
+-- the one triangle, and then the triangles across the sides of a marked one. Each turn makes one more triangle done,
+-- so there are no more turns than triangles. The three sides of a triangle are read off its triple.
 use Rattle.std.proofs.Common.{ℕ, ℤ, Bool, true, false, not, List, [], ◌∷◌, ◌≡◌, ◌<◌, ◌+◌, suc, zero, ◌⊎◌, inl, inr}
 use Rattle.std.proofs.Common.{refl, sym, ◌∙◌, ap, subst, cond, arith, length, get_or, slice_get, Some, set, replicate}
 use Rattle.std.specs.List.{count_by}

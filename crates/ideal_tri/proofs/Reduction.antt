@@ -1,4 +1,13 @@
 -- The free reduction of a word: it is reduced, unchanged by deletions, and goes with `++` and inverses.
+--
+-- A letter acts on reduced words: it is put in front, or takes away the inverse that stands there. A letter and its
+-- inverse undo each other, so words act as a group would, and the reduction of u is what u makes of the empty word. A
+-- word acts as its reduction does. From this follow all equations: the reduction of u v is that of the two reductions,
+-- u and its way back cancel, and what two words share at their start or end may be taken off.
+--
+-- A deletion takes out a pair that acts as nothing, so it leaves the reduction alone. Deletions lead from w to its
+-- reduction, pair by pair as the letters are put in front. A reduced word is its own reduction, so no other is
+-- reached.
 use Rattle.std.proofs.Common.{ℤ, Bool, cond, List, [], ◌∷◌, ◌++◌, ◌≡◌, ◌≢◌, inl, inr, refl, sym, ◌∙◌, ap, subst}
 use Rattle.std.proofs.Common.{append_assoc, arith, length, length-append}
 use Rattle.std.specs.List.{All}

@@ -1,4 +1,10 @@
 -- Rotations of lists, the test that finds them, and closed words up to rotation and direction.
+--
+-- A rotation is some number of steps in which the first element goes to the end. So what a step keeps, a rotation
+-- keeps, and rotations are closed under composition; the steps that are left lead back. The test tries all splits of
+-- the list, from the first place on, and finds v exactly where some split gives v. Two words run along one curve where
+-- one is a rotation of the other or of its way back. The way back of a rotation is a rotation of the way back, so this
+-- is an equivalence too, and counts of letters that don't see the direction are the same for words of one curve.
 use Rattle.std.proofs.Common.{ℕ, ℤ, Bool, true, false, List, [], ◌∷◌, ◌++◌, ◌||◌, ◌≡◌, ◌⊎◌, ◌↔◌, ◌+◌, inl, inr, refl}
 use Rattle.std.proofs.Common.{sym, ◌∙◌, ap, subst, append_assoc, arith, length, length-append, cond, map}
 use Rattle.std.specs.Cmp.Rules.{signed_items}

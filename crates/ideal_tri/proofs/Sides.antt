@@ -1,4 +1,10 @@
 -- Where a label stands, read off the table of places: its triangle, its side there, and the side after it.
+--
+-- The labels of all triples in a row have side s of triangle i at the place 3 i + s. They are different, so a search
+-- for one of them finds it at its only place: the first triple that has it is triangle i, and it stands there as side
+-- s; the side after it is side s + 1, or side 0 after side 2. The table has the place of each label, so quotient and
+-- remainder by 3 give its triangle and its side. Since all labels of the range stand in the triples, no entry of a
+-- label is empty.
 use Rattle.std.proofs.Common.{ℕ, ℤ, pos, Bool, true, false, List, [], ◌∷◌, ◌≡◌, ◌≢◌, ◌≤◌, ◌<◌, ◌+◌, ◌*◌, ◌/◌, ◌%◌, suc}
 use Rattle.std.proofs.Common.{zero, sym, ◌∙◌, ap, subst, if◌then◌else◌, arith, length, take, get_or, length-take-le}
 use Rattle.std.specs.List.{All}

@@ -1,4 +1,11 @@
 -- The table of places of a triangulation, and the table after two triangles are changed.
+--
+-- Different labels written one after another make a table that has each at its place: later ones have other keys. So a
+-- triangulation, in which each label stands once, has exactly one table.
+--
+-- Let all triangles but i and j be the same in two triangulations. If the sides of the new triangles i and j are
+-- written into the old table, it becomes the new one. This is seen key by key. A side of i or j has its new place. A
+-- label that stands in another triangle has its old place, which is the new one. A key of no label is empty in both.
 use Rattle.std.proofs.Common.{ℕ, ℤ, pos, negsuc, List, [], ◌∷◌, ◌≡◌, ◌≢◌, ◌≤◌, ◌<◌, ◌+◌, ◌-◌, ◌*◌, ◌/◌, ◌%◌, suc, zero}
 use Rattle.std.proofs.Common.{inl, inr, refl, sym, ◌∙◌, ap, subst, arith, length, take, set, get_or, replicate}
 use Rattle.std.specs.List.{All}
@@ -16,7 +23,7 @@ use Rattle.ideal_tri.proofs.Counting.{count, hit, count-cons, hit_same, lt_or_le
 use Rattle.ideal_tri.proofs.Sides.{Stands, stands, IsFound, found, is_label_at}
 use Rattle.ideal_tri.proofs.Triangles.{IsOnce-triangulation, label_of_counted}
 
--- each is a label of at most 48 edges
+-- each is a label of at most EDGES edges
 abbrev AreSmall : List ℤ → Type 0
 AreSmall xs = All (λ (x : ℤ). edge_of x < EDGES) xs
 
@@ -103,7 +110,7 @@ distinct_of_counts (y ∷ ys) h = go (distinct_of_counts ys (λ x. omega (arith,
         omega (arith, h (get_or ys j (pos 0)), count-cons y ys (get_or ys j (pos 0)), count_there ys j (omega arith))
     go later (suc i) (suc j) a b e = later i j (omega arith) (omega arith) e
 
--- a triangulation of at most 48 edges has its table
+-- a triangulation of at most EDGES edges has its table
 pub glued : (ts : List (List ℤ)) → IsTriangulation ts → IsOfGoodSize ts → IsGlued ts (places_of (labels_of ts))
 glued ts h size =
     let within : All (IsLabel ts) (labels_of ts) =

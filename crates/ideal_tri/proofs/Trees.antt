@@ -1,9 +1,12 @@
 -- Trees of triangles: how one begins, and how it grows across a side.
--- A naming of the corners is meant to be the same all round each vertex. If it is also the same at the two ends of each
--- edge of the marked triangles that no tree crosses, then it is the same on all corners of a marked part of a
+--
+-- A naming of the corners is meant to be the same all round each vertex. If it is also the same at the two ends of
+-- each edge of the marked triangles that no tree crosses, then it is the same on all corners of the marked part of a
 -- component. This is kept when a triangle is added across a side: its three corners are joined by its two other sides,
--- which no tree crosses yet, and the crossed side has two corners of the new triangle at its ends. A new tree begins at
--- a triangle that no walk reaches from the marked ones, so that no two trees share a component.
+-- which no tree crosses yet, and the crossed side has two corners of the new triangle at its ends. A new tree begins
+-- at a triangle that no walk reaches from the marked ones, so that no two trees share a component. A step marks one
+-- triangle and one edge, and a new tree marks one triangle: the trees cross as many edges as they have triangles
+-- beside the first.
 use Rattle.std.proofs.Common.{ℕ, suc, ℤ, pos, negsuc, Bool, true, false, not, cond, List, [], ◌∷◌, ◌≡◌, ◌≢◌, ◌≤◌, ◌<◌}
 use Rattle.std.proofs.Common.{◌+◌, ◌⊎◌, inl, inr, refl, sym, ◌∙◌, ap, subst, arith, length, get_or, set}
 use Rattle.std.proofs.lemmas.Bool.{cases_Bool, cases_eq, false≢true}
@@ -13,73 +16,10 @@ use Rattle.ideal_tri.specs.Labels.{inverse, edge_of}
 use Rattle.ideal_tri.specs.Triangulations.{IsLabel, IsReached, edge_count, triangle_of, next, previous}
 use Rattle.ideal_tri.specs.SurfaceLaws.{TriangleLaws}
 use Rattle.ideal_tri.specs.Vertices.{corner_step}
-use Rattle.ideal_tri.proofs.Labels.{inverse-inverse, inverse_label, edge_of-inverse}
+use Rattle.ideal_tri.proofs.Labels.{inverse-inverse, two_labels, inverse_label, edge_of-inverse}
 use Rattle.ideal_tri.proofs.Walks.{reached_here, reached_step, reached_along, reached_back}
 use Rattle.ideal_tri.proofs.Reaching.{IsClosed, reached_marked, marked, still_marked, was_marked, unmarked}
-
--- ---- names of corners
-
--- corners of one vertex have one name
-pub record IsVertexwise (ts : List (List ℤ)) (f : ℤ → ℤ) : Type 0 where
-  pub turns : (x : ℤ) → IsLabel ts x → f (corner_step ts x) ≡ f x
-
--- the two ends of the side x have one name
-abbrev pub IsJoined : List (List ℤ) → (ℤ → ℤ) → ℤ → Type 0
-IsJoined ts f x = f x ≡ f (previous ts x)
-
--- the corner at the tail of a side lies at the vertex of the head of its inverse
-pub tail_name : (ts : List (List ℤ)) → TriangleLaws ts → (f : ℤ → ℤ) → IsVertexwise ts f → (x : ℤ) → IsLabel ts x
-    → f (inverse x) ≡ f (previous ts x)
-tail_name ts h f v x l =
-    ap (λ (z : ℤ). f (inverse z)) (sym (h.round x l)) ∙ v.turns (previous ts x) (h.label (next ts x) (h.label x l))
-
-pub head_name : (ts : List (List ℤ)) → TriangleLaws ts → (f : ℤ → ℤ) → IsVertexwise ts f → (x : ℤ) → IsLabel ts x
-    → f (previous ts (inverse x)) ≡ f x
-head_name ts h f v x l = sym (tail_name ts h f v (inverse x) (inverse_label ts x l)) ∙ ap f (inverse-inverse x)
-
-pub joined_inverse : (ts : List (List ℤ)) → TriangleLaws ts → (f : ℤ → ℤ) → IsVertexwise ts f → (x : ℤ) → IsLabel ts x
-    → IsJoined ts f x → IsJoined ts f (inverse x)
-joined_inverse ts h f v x l e = tail_name ts h f v x l ∙ sym e ∙ sym (head_name ts h f v x l)
-
--- two joined sides of a triangle join its three corners
-three_corners : (ts : List (List ℤ)) → TriangleLaws ts → (f : ℤ → ℤ) (x : ℤ) → IsLabel ts x
-    → IsJoined ts f (next ts x) → IsJoined ts f (previous ts x)
-    → (u : ℤ) → IsLabel ts u → triangle_of ts u ≡ triangle_of ts x → f u ≡ f x
-three_corners ts h f x l a b u m e = go (h.sides x u l m e)
-  where
-    after : f (next ts x) ≡ f x
-    after = a ∙ ap f (h.round x l)
-
-    go : (u ≡ x) ⊎ ((u ≡ next ts x) ⊎ (u ≡ previous ts x)) → f u ≡ f x
-    go (inl d) = ap f d
-    go (inr (inl d)) = ap f d ∙ after
-    go (inr (inr d)) = ap f d ∙ b ∙ ap (λ (z : ℤ). f (next ts z)) (h.round x l) ∙ after
-
-same_edge : (x y : ℤ) → edge_of y ≡ edge_of x → (y ≡ x) ⊎ (y ≡ inverse x)
-same_edge (pos m) (pos n) e = inl (ap pos e)
-same_edge (pos m) (negsuc n) e = inr (ap negsuc e)
-same_edge (negsuc m) (pos n) e = inr (ap pos e)
-same_edge (negsuc m) (negsuc n) e = inl (ap negsuc e)
-
--- ---- marks
-
-pub mark_one : (marks : List Bool) (k : ℕ) → k < length marks → get_or marks k false ≡ false
-    → unmarked (set marks k true) + 1 ≡ unmarked marks
-mark_one marks k b m =
-    let moved : unmarked (set marks k true) + cond (not (get_or marks k false)) 1 0
-    ≡ unmarked marks + cond (not true) 1 0 =
-    sum_by-set (λ v. cond (not v) 1 0) marks k true false b in
-    let one : ◌≡◌ {A = ℕ} (cond (not (get_or marks k false)) 1 0) 1 = ap (λ (v : Bool). cond (not v) 1 0) m in
-    omega arith
-
-pub none_unmarked : (marks : List Bool) → ((k : ℕ) → k < length marks → get_or marks k false ≡ true)
-    → unmarked marks ≡ 0
-none_unmarked [] h = refl
-none_unmarked (m ∷ marks) h =
-    let here : m ≡ true = h 0 (omega arith) in
-    let later : unmarked marks ≡ 0 = none_unmarked marks (λ k b. h (suc k) (omega arith)) in
-    let zero_here : ◌≡◌ {A = ℕ} (cond (not m) 1 0) 0 = ap (λ (v : Bool). cond (not v) 1 0) here in
-    sum_by-cons (λ v. cond (not v) 1 0) m marks ∙ omega arith
+use Rattle.ideal_tri.proofs.Naming.{IsVertexwise, IsJoined, tail_name, head_name, three_corners, mark_one}
 
 -- ---- a tree that grows
 
@@ -140,7 +80,7 @@ inside_more ts h trees reached tree x g c y l m =
     elim (was_marked tree (edge_of x) (edge_of y) m) [
       | inl old ↦ still_marked reached (triangle_of ts (inverse x)) (triangle_of ts y) below (g.inside y l old)
       | inr e ↦
-          elim (same_edge x y e) [
+          elim (two_labels y x e) [
             | inl d ↦
                 still_marked reached (triangle_of ts (inverse x)) (triangle_of ts y) below
                 (ap (λ (z : ℤ). get_or reached (triangle_of ts z) false) d ∙ c.from)
@@ -167,7 +107,7 @@ side_free ts trees reached tree x g c y l e ne =
                 absurd (not_both reached (triangle_of ts (inverse x))
                 (ap (λ (k : ℕ). get_or reached k false) (sym e) ∙ g.inside y l old) c.to)
             | inr same ↦
-                elim (same_edge x y same) [
+                elim (two_labels y x same) [
                   | inl d ↦
                       absurd
                       (not_both reached (triangle_of ts (inverse x))
@@ -228,7 +168,7 @@ joined_before ts h trees reached tree x g c f v joined u k at free =
           joined u k (still_marked reached (triangle_of ts (inverse x)) (triangle_of ts u) below at)
           (get_or-set_other tree (edge_of x) (edge_of u) true false ne ∙ free)
       | inl e ↦
-          elim (same_edge x u e) [
+          elim (two_labels u x e) [
             | inl d ↦
                 subst (IsJoined ts f) (sym d)
                 (crossed_name ts h trees reached tree x g c f v joined ∙ tail_name ts h f v x c.label)
@@ -313,74 +253,3 @@ grow ts h trees reached tree x g c = record {
         both p q =
             joins_more ts h trees reached tree x g c f v joined y l m p
             ∙ sym (joins_more ts h trees reached tree x g c f v joined z k n q)
-
--- ---- one more tree
-
-pub more_trees : (ts : List (List ℤ)) (trees more : ℕ) (reached tree : List Bool) → trees ≤ more
-    → Grown ts trees reached tree → Grown ts more reached tree
-more_trees ts trees more reached tree b g = record {
-  room = g.room;
-  sides = g.sides;
-  few = omega (arith, g.few);
-  inside = g.inside;
-  joins = g.joins;
-}
-
--- a triangle that no side leads to from the marked ones
-pub plant : (ts : List (List ℤ)) → TriangleLaws ts → (trees : ℕ) (reached tree : List Bool) (r : ℕ)
-    → Grown ts trees reached tree → IsClosed ts reached
-    → r < length ts → IsFree reached r → Grown ts (trees + 1) (set reached r true) tree
-plant ts h trees reached tree r g closed below free = record {
-  room = length-set reached r true ∙ g.room;
-  sides = g.sides;
-  few = omega (arith, g.few, mark_one reached r within free);
-  inside = λ x l m. still_marked reached r (triangle_of ts x) within (g.inside x l m);
-  joins = joins;
-}
-  where
-    within : r < length reached
-    within = omega (arith, g.room)
-
-    -- no walk leads from a marked triangle to it
-    apart : (s : ℕ) → IsMarked reached s → IsReached ts s r → ⊥
-    apart s m p = not_both reached r (reached_marked ts reached s r closed p m) free
-
-    joins : (f : ℤ → ℤ) → IsVertexwise ts f → AreJoined ts (set reached r true) tree f
-        → (y z : ℤ) → IsLabel ts y → IsLabel ts z → IsMarked (set reached r true) (triangle_of ts y)
-        → IsMarked (set reached r true) (triangle_of ts z) → IsReached ts (triangle_of ts y) (triangle_of ts z)
-        → f y ≡ f z
-    joins f v joined y z l k m n p =
-        elim (was_marked reached r (triangle_of ts y) m) [
-          | inl old_y ↦
-              elim (was_marked reached r (triangle_of ts z) n) [
-                | inl old_z ↦
-                    g.joins f v (λ u q at e. joined u q (still_marked reached r (triangle_of ts u) within at) e) y z l k
-                    old_y old_z p
-                | inr new ↦ absurd (apart (triangle_of ts y) old_y (subst (IsReached ts (triangle_of ts y)) new p))
-              ]
-          | inr new_y ↦
-              elim (was_marked reached r (triangle_of ts z) n) [
-                | inl old_z ↦
-                    absurd
-                    (apart (triangle_of ts z) old_z
-                    (subst (IsReached ts (triangle_of ts z)) new_y
-                    (reached_back ts (triangle_of ts y) (triangle_of ts z) p)))
-                | inr new_z ↦ sym (corners new_y z k (new_z ∙ sym new_y))
-              ]
-        ]
-      where
-        side : triangle_of ts y ≡ r → (u : ℤ) → IsLabel ts u → triangle_of ts u ≡ triangle_of ts y → IsJoined ts f u
-        side new u q e =
-            joined u q (ap (λ (i : ℕ). get_or (set reached r true) i false) e ∙ m)
-            (elim (marked_or_free tree (edge_of u)) [
-              | inr a ↦ a
-              | inl a ↦
-                  absurd (apart (triangle_of ts u) (g.inside u q a) (reached_here ts (triangle_of ts u) r (e ∙ new)))
-            ])
-
-        corners : triangle_of ts y ≡ r → (u : ℤ) → IsLabel ts u → triangle_of ts u ≡ triangle_of ts y → f u ≡ f y
-        corners new u q e =
-            let after : IsLabel ts (next ts y) = h.label y l in
-            let before : IsLabel ts (previous ts y) = h.label (next ts y) after in
-            three_corners ts h f y l (side new (next ts y) after (h.stays y l))
-            (side new (previous ts y) before (h.stays (next ts y) after ∙ h.stays y l)) u q e

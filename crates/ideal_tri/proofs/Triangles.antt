@@ -1,4 +1,10 @@
 -- Each label of a triangulation stands at one place, and next runs round its triangle.
+--
+-- A triple in which no label stands twice has three different sides, and each is followed by another. Where no label
+-- stands twice in all triples, the search for a label ends at the triple that has it, so that the first triple gives a
+-- triangle, and each later one is still a triangle behind one more triple. In a triangulation each label of the range
+-- stands once and no other stands at all. So it has a triangle, which can be read from any of its three sides: three
+-- steps of next come back, and the sides of the triangle are just these three.
 use Rattle.std.proofs.Common.{ℕ, zero, ℤ, suc, Bool, ◌||◌, true, false, cond, List, [], ◌∷◌, ◌++◌, ◌≡◌, ◌≢◌, ◌≤◌, ◌<◌}
 use Rattle.std.proofs.Common.{◌+◌, ◌⊎◌, inl, inr, refl, sym, ◌∙◌, ap, subst, arith, length, get_or}
 use Rattle.std.specs.List.{All, Contains, count_by}

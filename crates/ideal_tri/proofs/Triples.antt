@@ -1,4 +1,9 @@
 -- The triples of a triangulation, read from any of their sides.
+--
+-- A list of three has three rotations. A triangle is a rotation of one of the triples, so it can be read from any of
+-- its labels: as labels stand once, the triple at a place gives the triangle of its three labels, and the label after
+-- each. Conversely each label stands in a triple, and with the two labels that follow it it is a rotation of that
+-- triple.
 use Rattle.std.proofs.Common.{ℕ, zero, suc, ℤ, List, [], ◌∷◌, ◌++◌, ◌≡◌, ◌<◌, ◌⊎◌, inl, inr, refl, sym, ◌∙◌, ap, subst}
 use Rattle.std.proofs.Common.{arith, length, get_or}
 use Rattle.std.proofs.lemmas.List.{append-nil, get_or_default}

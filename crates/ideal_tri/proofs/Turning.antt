@@ -1,4 +1,10 @@
 -- Turning round a vertex: the corner step comes back, and the least corner found is the least of the whole turn.
+--
+-- The step from x to the inverse of next x is injective on the labels, so iterates of it are. As long as it does not
+-- come back to x, the corners passed are different labels. There are no more labels than 2 ζ, so it is back at x after
+-- at most 2 ζ steps, and each corner of the vertex is met within these. So to lie at one vertex is symmetric, and the
+-- least of the 2 ζ corners from x on is the least corner of the vertex: it is the same for all corners there, and it
+-- is its own.
 use Rattle.std.proofs.Common.{ℕ, zero, suc, ℤ, pos, negsuc, Bool, cond, eqb, List, [], ◌∷◌, ◌≡◌, ◌≢◌, ◌≤◌, ◌<◌, ◌+◌}
 use Rattle.std.proofs.Common.{◌-◌, ◌*◌, ◌/◌, ◌%◌, ◌⊎◌, inl, inr, refl, sym, ◌∙◌, ap, subst, arith, length, get_or}
 use Rattle.std.specs.List.{All}

@@ -1,4 +1,12 @@
 -- The numbers of the vertices, and the bound on how many there are.
+--
+-- The first corners, those that are the least of their vertices, are listed in the order of labels. The number of a
+-- vertex is how many first corners come before its least one. It grows with the least corner, so it tells vertices
+-- apart.
+--
+-- Let the vertices be named by their least corners, and let names be merged along all edges that no tree of a forest
+-- of triangles crosses. In the end all corners of a component have one name, that of a side of its least triangle. So
+-- there are at most C more vertices than such edges, and of these there are ζ - T + C: in all V + T ≤ ζ + 2 C.
 use Rattle.std.proofs.Common.{ℕ, zero, suc, ℤ, pos, negsuc, Bool, true, false, not, cond, ltb, List, [], ◌∷◌, ◌++◌, ◌≡◌}
 use Rattle.std.proofs.Common.{◌≤◌, ◌<◌, ◌+◌, ◌-◌, ◌*◌, ◌↔◌, inl, inr, refl, sym, ◌∙◌, ap, subst, arith, Some, None}
 use Rattle.std.proofs.Common.{length, get_or, map, append_assoc, length-append}
@@ -30,7 +38,7 @@ use Rattle.ideal_tri.proofs.Turning.{least_corner_there, least_corner_least, lea
 use Rattle.ideal_tri.proofs.Turning.{same_vertex_of_least, least_corner_own}
 use Rattle.ideal_tri.proofs.Merging.{merged, merged_keeps, merged_joins, IsNamed, names_of_parts}
 use Rattle.ideal_tri.proofs.Components.{is_first_triangle, least_triangle_below, least_triangle_there, least_is_first}
-use Rattle.ideal_tri.proofs.Trees.{IsVertexwise, IsJoined, joined_inverse}
+use Rattle.ideal_tri.proofs.Naming.{IsVertexwise, IsJoined, joined_inverse}
 use Rattle.ideal_tri.proofs.Forest.{Forest, forest}
 
 -- ---- the first corners in their order
