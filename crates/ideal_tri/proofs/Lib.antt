@@ -7,6 +7,7 @@ pub mod Numbering
 pub mod Nearness
 pub mod Components
 pub mod Laying
+pub mod Refusals
 pub mod Labels
 pub mod Reduction
 pub mod Rotations

@@ -1,16 +1,13 @@
 -- Names of the corners, the same all round each vertex; and how many marks are left to be set.
-use Rattle.std.proofs.Common.{ℕ, suc, ℤ, pos, negsuc, Bool, true, false, not, cond, List, [], ◌∷◌, ◌≡◌, ◌≢◌, ◌≤◌, ◌<◌}
-use Rattle.std.proofs.Common.{◌+◌, ◌⊎◌, inl, inr, refl, sym, ◌∙◌, ap, subst, arith, length, get_or, set}
-use Rattle.std.proofs.lemmas.Bool.{cases_Bool, cases_eq, false≢true}
-use Rattle.std.proofs.lemmas.List.{length-set, get_or-set_other}
+use Rattle.std.proofs.Common.{ℕ, suc, ℤ, Bool, true, false, not, cond, List, [], ◌∷◌, ◌≡◌, ◌<◌, ◌+◌, ◌⊎◌, inl, inr}
+use Rattle.std.proofs.Common.{refl, sym, ◌∙◌, ap, arith, length, get_or, set}
 use Rattle.std.proofs.lemmas.List.Sums.{sum_by-cons, sum_by-set}
-use Rattle.ideal_tri.specs.Labels.{inverse, edge_of}
-use Rattle.ideal_tri.specs.Triangulations.{IsLabel, IsReached, edge_count, triangle_of, next, previous}
+use Rattle.ideal_tri.specs.Labels.{inverse}
+use Rattle.ideal_tri.specs.Triangulations.{IsLabel, triangle_of, next, previous}
 use Rattle.ideal_tri.specs.SurfaceLaws.{TriangleLaws}
 use Rattle.ideal_tri.specs.Vertices.{corner_step}
-use Rattle.ideal_tri.proofs.Labels.{inverse-inverse, inverse_label, edge_of-inverse}
-use Rattle.ideal_tri.proofs.Walks.{reached_here, reached_step, reached_along, reached_back}
-use Rattle.ideal_tri.proofs.Reaching.{IsClosed, reached_marked, marked, still_marked, was_marked, unmarked}
+use Rattle.ideal_tri.proofs.Labels.{inverse-inverse, inverse_label}
+use Rattle.ideal_tri.proofs.Reaching.{unmarked}
 
 -- ---- names of corners
 

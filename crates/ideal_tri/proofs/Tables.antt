@@ -98,7 +98,7 @@ count_there [] k b = absurd (omega arith)
 count_there (y ∷ ys) zero b = omega (arith, count-cons y ys y, hit_same y)
 count_there (y ∷ ys) (suc k) b = omega (arith, count-cons y ys (get_or ys k (pos 0)), count_there ys k (omega arith))
 
-distinct_of_counts : (xs : List ℤ) → ((x : ℤ) → count xs x ≤ 1) → IsDistinct xs
+pub distinct_of_counts : (xs : List ℤ) → ((x : ℤ) → count xs x ≤ 1) → IsDistinct xs
 distinct_of_counts [] h = λ i j a b e. omega arith
 distinct_of_counts (y ∷ ys) h = go (distinct_of_counts ys (λ x. omega (arith, h x, count-cons y ys x)))
   where

@@ -7,18 +7,16 @@
 -- at a triangle that no walk reaches from the marked ones, so that no two trees share a component. A step marks one
 -- triangle and one edge, and a new tree marks one triangle: the trees cross as many edges as they have triangles
 -- beside the first.
-use Rattle.std.proofs.Common.{ℕ, suc, ℤ, pos, negsuc, Bool, true, false, not, cond, List, [], ◌∷◌, ◌≡◌, ◌≢◌, ◌≤◌, ◌<◌}
-use Rattle.std.proofs.Common.{◌+◌, ◌⊎◌, inl, inr, refl, sym, ◌∙◌, ap, subst, arith, length, get_or, set}
+use Rattle.std.proofs.Common.{ℕ, ℤ, Bool, true, false, List, ◌≡◌, ◌≢◌, ◌≤◌, ◌<◌, ◌+◌, ◌⊎◌, inl, inr, sym, ◌∙◌, ap}
+use Rattle.std.proofs.Common.{subst, arith, length, get_or, set}
 use Rattle.std.proofs.lemmas.Bool.{cases_Bool, cases_eq, false≢true}
 use Rattle.std.proofs.lemmas.List.{length-set, get_or-set_other}
-use Rattle.std.proofs.lemmas.List.Sums.{sum_by-cons, sum_by-set}
 use Rattle.ideal_tri.specs.Labels.{inverse, edge_of}
 use Rattle.ideal_tri.specs.Triangulations.{IsLabel, IsReached, edge_count, triangle_of, next, previous}
 use Rattle.ideal_tri.specs.SurfaceLaws.{TriangleLaws}
-use Rattle.ideal_tri.specs.Vertices.{corner_step}
-use Rattle.ideal_tri.proofs.Labels.{inverse-inverse, two_labels, inverse_label, edge_of-inverse}
-use Rattle.ideal_tri.proofs.Walks.{reached_here, reached_step, reached_along, reached_back}
-use Rattle.ideal_tri.proofs.Reaching.{IsClosed, reached_marked, marked, still_marked, was_marked, unmarked}
+use Rattle.ideal_tri.proofs.Labels.{two_labels, inverse_label, edge_of-inverse}
+use Rattle.ideal_tri.proofs.Walks.{reached_step, reached_along, reached_back}
+use Rattle.ideal_tri.proofs.Reaching.{marked, still_marked, was_marked, unmarked}
 use Rattle.ideal_tri.proofs.Naming.{IsVertexwise, IsJoined, tail_name, head_name, three_corners, mark_one}
 
 -- ---- a tree that grows

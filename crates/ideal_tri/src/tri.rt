@@ -93,6 +93,8 @@ impl Tri {
         ensures connected { IfOk result IsConnected }
         ensures size { IfOk result (λ _. IsOfGoodSize triples.now) }
         ensures refused { IfErr result (IsRefusedFor triples.now) }
+        ensures exact { IfErr result (λ _. ¬ (IsOfGoodSize triples.now
+            × IsTriangulation triples.now × IsConnected triples.now)) }
     {
         let tri = Tri::from_components(triples)?;
         match first_unreached(&tri) {
@@ -107,6 +109,7 @@ impl Tri {
         ensures accepted { IfOk result (λ t. IsTriangulation triples.now × (t ≡ triples.now)) }
         ensures size { IfOk result (λ _. IsOfGoodSize triples.now) }
         ensures refused { IfErr result (IsRefusedGluing triples.now) }
+        ensures exact { IfErr result (λ _. ¬ (IsOfGoodSize triples.now × IsTriangulation triples.now)) }
     {
         if triples.is_empty() {
             return Err(TriError::NoTriangle);
