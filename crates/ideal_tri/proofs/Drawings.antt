@@ -1,2 +1,4 @@
+pub mod Tallies
+pub mod SameCurves
 pub mod Words
 pub mod Examples

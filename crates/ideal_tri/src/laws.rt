@@ -1,5 +1,6 @@
 //! What is proved of the definitions that the contracts cite.
 ghost use Rattle.ideal_tri.specs.WordLaws.{ReductionLaws, CyclicLaws, CurveLaws};
+ghost use Rattle.ideal_tri.specs.DrawingLaws.{SameCurvesLaws};
 ghost use Rattle.ideal_tri.specs.SurfaceLaws.{SurfaceLaws};
 ghost use Rattle.ideal_tri.specs.FlipLaws.{QuadrilateralLaws};
 ghost use Rattle.ideal_tri.specs.TripleLaws.{TripleLaws};
@@ -10,6 +11,11 @@ pub fn word_laws()
     ensures reduction { ReductionLaws }
     ensures cyclic { CyclicLaws }
     ensures curves { CurveLaws }
+{}
+
+/// What is proved of lists of closed words up to order, rotation and direction.
+pub fn same_curves_laws()
+    ensures { SameCurvesLaws }
 {}
 
 /// What is proved of triangulations, walks and the drawings of a vector.
