@@ -4,5 +4,7 @@ pub mod Orbits
 pub mod Runs
 pub mod Cycles
 pub mod Alike
+pub mod Rising
+pub mod Firsts
 pub mod Words
 pub mod Examples

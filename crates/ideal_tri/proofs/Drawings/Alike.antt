@@ -34,6 +34,9 @@ module _ {A : Type 0} (s : Pairings A) where
   pub uses_head : (x : A) (run : List A) → uses x (x ∷ run) ≢ 0
   uses_head x run none = omega (arith, O.count-same s x x run refl)
 
+  pub uses_own_cycle : (x : A) → uses x (C.cycle s x) ≢ 0
+  uses_own_cycle x = uses_head x (C.rest_of s x)
+
   -- a closed run that uses each pair once at most
   pub record Simple (run : List A) : Type 0 where
     pub closed : R.Closed s run

@@ -82,10 +82,14 @@ module _ {A : Type 0} (s : Pairings A) where
       go true e later = sym ((s.same_decides x y).0 e)
       go false e later = (refl, later (λ none. some (count_by-no (s.same x) y rest e ∙ none)))
 
-  abbrev pub cycle : A → List A
-  cycle x = x ∷ front x (orbit step bound (step x))
+  -- the cycle after its first thing
+  abbrev pub rest_of : A → List A
+  rest_of x = front x (orbit step bound (step x))
 
-  cycle_runs : (x : A) → s.Valid x → R.Runs s (step x) (front x (orbit step bound (step x))) x
+  abbrev pub cycle : A → List A
+  cycle x = x ∷ rest_of x
+
+  cycle_runs : (x : A) → s.Valid x → R.Runs s (step x) (rest_of x) x
   cycle_runs x v = front_runs bound x (step x) (returns x v)
 
   pub cycle_closed : (x : A) → s.Valid x → R.Closed s (cycle x)
@@ -98,7 +102,7 @@ module _ {A : Type 0} (s : Pairings A) where
 
   pub cycle_once : (x y : A) → s.Valid x → O.count s y (cycle x) ≤ 1
   cycle_once x y v =
-      let rest : List A = front x (orbit step bound (step x)) in
+      let rest : List A = rest_of x in
       let is : rest ≡ orbit step (length rest) (step x) = R.runs_orbit s (step x) x rest (cycle_runs x v) in
       let none : O.count s x (orbit step (length rest) (step x)) ≡ 0 =
       ap (O.count s x) (sym is) ∙ front-count x (orbit step bound (step x)) in
@@ -110,7 +114,7 @@ module _ {A : Type 0} (s : Pairings A) where
   cycle_is x run c once =
       let (v, closes) = R.closed_at_head s x run c in
       ap (λ (zs : List A). x ∷ zs)
-      (R.runs_unique s (step x) x run (front x (orbit step bound (step x))) closes.1 (cycle_runs x v)
+      (R.runs_unique s (step x) x run (rest_of x) closes.1 (cycle_runs x v)
       (omega (arith, O.count-same s x x run refl)) (front-count x (orbit step bound (step x))))
 
   pub cycle_rotation : (x : A) (run : List A) → R.Closed s run → O.count s x run ≡ 1 → IsRotation run (cycle x)
