@@ -6,5 +6,7 @@ pub mod Cycles
 pub mod Alike
 pub mod Rising
 pub mod Firsts
+pub mod Through
+pub mod Numbers
 pub mod Words
 pub mod Examples
