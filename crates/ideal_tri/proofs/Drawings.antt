@@ -8,5 +8,7 @@ pub mod Rising
 pub mod Firsts
 pub mod Through
 pub mod Numbers
+pub mod States
+pub mod Draw
 pub mod Words
 pub mod Examples

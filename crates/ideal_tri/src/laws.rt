@@ -1,7 +1,9 @@
 //! What is proved of the definitions that the contracts cite.
 ghost use Rattle.ideal_tri.specs.WordLaws.{ReductionLaws, CyclicLaws, CurveLaws};
-ghost use Rattle.ideal_tri.specs.DrawingLaws.{SameCurvesLaws};
+ghost use Rattle.std.specs.Prelude.{ℤ, List};
+ghost use Rattle.ideal_tri.specs.DrawingLaws.{DrawingLaws, SameCurvesLaws};
 ghost use Rattle.ideal_tri.specs.SurfaceLaws.{SurfaceLaws};
+ghost use Rattle.ideal_tri.specs.Triangulations.{IsTriangulation};
 ghost use Rattle.ideal_tri.specs.FlipLaws.{QuadrilateralLaws};
 ghost use Rattle.ideal_tri.specs.TripleLaws.{TripleLaws};
 ghost use Rattle.ideal_tri.specs.VertexLaws.{PunctureLaws};
@@ -18,7 +20,13 @@ pub fn same_curves_laws()
     ensures { SameCurvesLaws }
 {}
 
-/// What is proved of triangulations, walks and the drawings of a vector.
+/// What is proved of the drawings of a vector: they exist, their words are unique up to order, rotation and direction, and
+/// one begins each curve at its least strand, in rising order.
+pub fn drawing_laws()
+    ensures { (triples : List (List ℤ)) → IsTriangulation triples → DrawingLaws triples }
+{}
+
+/// What is proved of triangulations, and of walks on them.
 pub fn surface_laws()
     ensures { SurfaceLaws }
 {}

@@ -71,8 +71,8 @@ rising_append : {A : Type 0} (number : A → ℕ) (m : ℕ) (xs ys : List A) →
 rising_append number m [] ys h k below above = k
 rising_append number m (x ∷ xs) ys h k below above = (
   All-append (λ y. number x < number y) xs ys h.0
-  (All-weaker (λ y. m ≤ number y) (λ y. number x < number y)
-  (λ y b. omega (arith, All-head (λ z. number z < m) x xs below)) ys above),
+      (All-weaker (λ y. m ≤ number y) (λ y. number x < number y)
+      (λ y b. omega (arith, All-head (λ z. number z < m) x xs below)) ys above),
   rising_append number m xs ys h.1 k (All-tail (λ z. number z < m) x xs below) above,
 )
 
@@ -80,8 +80,8 @@ row_rising : (w : List ℕ) (e a n : ℕ) → Rising (strand_number w) (map (sta
 row_rising w e a zero = tt
 row_rising w e a (suc n) = (
   All-map (λ q. strand_number w (state_at (pos e) a) < strand_number w q) (state_at (pos e)) (range_with_len (a + 1) n)
-  (All-weaker (λ i. a + 1 ≤ i) (λ i. strand_number w (state_at (pos e) a) < strand_number w (state_at (pos e) i)) (λ i b. omega arith)
-  (range_with_len (a + 1) n) (range_from (a + 1) n)),
+      (All-weaker (λ i. a + 1 ≤ i) (λ i. strand_number w (state_at (pos e) a) < strand_number w (state_at (pos e) i)) (λ i b. omega arith)
+      (range_with_len (a + 1) n) (range_from (a + 1) n)),
   row_rising w e (a + 1) n,
 )
 
@@ -91,9 +91,9 @@ row_numbers : (w : List ℕ) (e m n : ℕ) → sum (take e w) ≡ m
 unfolding row
 row_numbers w e m n is = (
   All-map (λ q. m ≤ strand_number w q) (state_at (pos e)) (range_with_len 0 n)
-  (All-weaker (λ i. 0 ≤ i) (λ i. m ≤ strand_number w (state_at (pos e) i)) (λ i b. omega arith) (range_with_len 0 n) (range_from 0 n)),
+      (All-weaker (λ i. 0 ≤ i) (λ i. m ≤ strand_number w (state_at (pos e) i)) (λ i b. omega arith) (range_with_len 0 n) (range_from 0 n)),
   All-map (λ q. strand_number w q < m + n) (state_at (pos e)) (range_with_len 0 n)
-  (All-weaker (λ i. i < 0 + n) (λ i. strand_number w (state_at (pos e) i) < m + n) (λ i b. omega arith) (range_with_len 0 n) (range_below 0 n)),
+      (All-weaker (λ i. i < 0 + n) (λ i. strand_number w (state_at (pos e) i) < m + n) (λ i b. omega arith) (range_with_len 0 n) (range_below 0 n)),
 )
 
 numbers_from : (w u v : List ℕ) (e : ℕ) → w ≡ u ++ v → length u ≡ e
@@ -106,11 +106,11 @@ numbers_from w u (n ∷ v) e is at =
     let (rest, above) = numbers_from w (u ++ (n ∷ [])) v (suc e) (moved w u v n is) (omega (arith, length-append u (n ∷ []))) in
     let more : sum (u ++ (n ∷ [])) ≡ sum u + n = sum_by_push (λ k. k) u n in (
       rising_append (strand_number w) (sum u + n) (row e n) (strands_from (suc e) v) (row_rising w e 0 n) rest here.1
-      (All-weaker (λ q. sum (u ++ (n ∷ [])) ≤ strand_number w q) (λ q. sum u + n ≤ strand_number w q) (λ q b. omega arith)
-      (strands_from (suc e) v) above),
+          (All-weaker (λ q. sum (u ++ (n ∷ [])) ≤ strand_number w q) (λ q. sum u + n ≤ strand_number w q) (λ q b. omega arith)
+          (strands_from (suc e) v) above),
       All-append (λ q. sum u ≤ strand_number w q) (row e n) (strands_from (suc e) v) here.0
-      (All-weaker (λ q. sum (u ++ (n ∷ [])) ≤ strand_number w q) (λ q. sum u ≤ strand_number w q) (λ q b. omega arith)
-      (strands_from (suc e) v) above),
+          (All-weaker (λ q. sum (u ++ (n ∷ [])) ≤ strand_number w q) (λ q. sum u ≤ strand_number w q) (λ q b. omega arith)
+          (strands_from (suc e) v) above),
     )
 
 pub strands_rise : (w : List ℕ) → Rising (strand_number w) (strands w)
@@ -127,7 +127,7 @@ in_row e a (suc n) i b c none =
           omega (
             arith,
             count_by-yes (same_state (state_at (pos e) i)) (state_at (pos e) a) rest
-            ((same_state_decides (state_at (pos e) i) (state_at (pos e) a)).1 (ap (state_at (pos e)) d)),
+                ((same_state_decides (state_at (pos e) i) (state_at (pos e) a)).1 (ap (state_at (pos e)) d)),
           )
       | inr d ↦
           in_row e (a + 1) n i (omega arith) (omega arith)

@@ -34,7 +34,7 @@ module _ {A : Type 0} (number : A → ℕ) where
       let first : number x < number y = h 0 (omega arith) in
       let rest : Rising (y ∷ xs) = rising (y ∷ xs) later in (
         All-cons (λ z. number x < number z) y xs first
-        (All-weaker (λ z. number y < number z) (λ z. number x < number z) (λ z b. omega arith) xs rest.0),
+            (All-weaker (λ z. number y < number z) (λ z. number x < number z) (λ z b. omega arith) xs rest.0),
         rest,
       )
     where

@@ -56,17 +56,15 @@ module _ {A : Type 0} (s : Pairings A) where
 
   -- ---- backwards
 
-  pub back : List A → List A
+  abbrev pub back : List A → List A
   back [] = []
   back (x ∷ run) = back run ++ (s.opposite x ∷ [])
 
   pub length-back : (run : List A) → length (back run) ≡ length run
-  unfolding back
   length-back [] = refl
   length-back (x ∷ run) = omega (arith, length-append (back run) (s.opposite x ∷ []), length-back run)
 
   pub runs_back : (x y : A) (run : List A) → s.Valid x → Runs x run y → Runs (step (s.opposite y)) (back run) (step (s.opposite x))
-  unfolding back
   runs_back x y [] v h = ap (λ (z : A). step (s.opposite z)) (sym h)
   runs_back x y (u ∷ run) v h =
       let rest : Runs (step (s.opposite y)) (back run) (s.opposite x) =
@@ -75,7 +73,6 @@ module _ {A : Type 0} (s : Pairings A) where
       runs_join (step (s.opposite y)) (s.opposite x) (step (s.opposite x)) (back run) (s.opposite u ∷ []) rest (ap s.opposite h.0, refl)
 
   pub count-back : (x : A) (run : List A) → s.Valid x → All s.Valid run → O.count s x (back run) ≡ O.count s (s.opposite x) run
-  unfolding back
   count-back x [] v h = refl
   count-back x (u ∷ run) v h =
       let vu : s.Valid u = All-head s.Valid u run h in
@@ -130,7 +127,6 @@ module _ {A : Type 0} (s : Pairings A) where
   closed_rotated run other r c = Rotation-steps Closed closed_step run other r c
 
   back-not_nil : (run : List A) → run ≢ [] → back run ≢ []
-  unfolding back
   back-not_nil [] some = absurd (some refl)
   back-not_nil (x ∷ run) some = not_nil (s.opposite x) (back run)
 
