@@ -10,5 +10,6 @@ pub mod Through
 pub mod Numbers
 pub mod States
 pub mod Draw
+pub mod LeastCounts
 pub mod Words
 pub mod Examples

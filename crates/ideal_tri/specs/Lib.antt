@@ -17,4 +17,6 @@ pub mod Flips
 pub mod FlipLaws
 pub mod Vertices
 pub mod VertexLaws
+pub mod PeripheralParts
+pub mod CornerLaws
 pub mod TripleLaws
