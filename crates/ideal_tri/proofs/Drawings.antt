@@ -11,5 +11,6 @@ pub mod Numbers
 pub mod States
 pub mod Draw
 pub mod LeastCounts
+pub mod Round
 pub mod Words
 pub mod Examples

@@ -158,7 +158,7 @@ module _ {A : Type 0} (s : Pairings A) where
       (sym (after-suc n (step x)) ∙ e ∙ sym (O.step_back s x v)))
 
   -- how many steps from the start of a run to a thing that it passes
-  run_reaches : (x y z : A) (run : List A) → R.Runs s x run z → O.count s y run ≢ 0 → (n : ℕ) × (after n x ≡ y)
+  pub run_reaches : (x y z : A) (run : List A) → R.Runs s x run z → O.count s y run ≢ 0 → (n : ℕ) × (after n x ≡ y)
   run_reaches x y z [] h some = absurd (some refl)
   run_reaches x y z (u ∷ run) h some =
       elim (O.count-cases s y u run some) [

@@ -111,6 +111,32 @@ module _ {A : Type 0} (s : Pairings A) where
       let at : x ≡ c.start = c.closes.0 in
       (subst s.Valid (sym at) c.valid, subst (λ (z : A). Runs z (x ∷ run) z) (sym at) c.closes)
 
+  -- a run goes on from each thing that it passes, to a thing that it passes or to its end
+  goes_on : (x y z : A) (run : List A) → Runs x run z → O.count s y run ≢ 0 → (O.count s (step y) run ≢ 0) ⊎ (step y ≡ z)
+  goes_on x y z [] h some = absurd (some refl)
+  goes_on x y z (u ∷ []) h some =
+      elim (O.count-cases s y u [] some) [ inl e ↦ inr (ap step (e ∙ h.0) ∙ h.1) | inr later ↦ absurd (later refl) ]
+  goes_on x y z (u ∷ (v ∷ run)) h some =
+      elim (O.count-cases s y u (v ∷ run) some) [
+        | inl e ↦
+            (let next : step y ≡ v = ap step (e ∙ h.0) ∙ sym h.1.0 in
+            inl
+            (λ none. omega (arith, count_by-cons (s.same (step y)) u (v ∷ run), O.count-same s (step y) v run next)))
+        | inr later ↦
+            elim (goes_on (step x) y z (v ∷ run) h.1 later) [
+              | inl more ↦ inl (λ none. more (omega (arith, count_by-cons (s.same (step y)) u (v ∷ run))))
+              | inr end ↦ inr end
+            ]
+      ]
+
+  pub closed_goes_on : (y : A) (run : List A) → Closed run → O.count s y run ≢ 0 → O.count s (step y) run ≢ 0
+  closed_goes_on y [] c some = absurd (some refl)
+  closed_goes_on y (x ∷ run) c some =
+      elim (goes_on x y x (x ∷ run) (closed_at_head x run c).1 some) [
+        | inl more ↦ more
+        | inr e ↦ (λ none. omega (arith, O.count-same s (step y) x run e))
+      ]
+
   not_nil : (x : A) (run : List A) → run ++ (x ∷ []) ≢ []
   not_nil x [] e = cc
   not_nil x (y ∷ run) e = cc

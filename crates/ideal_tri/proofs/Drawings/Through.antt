@@ -8,7 +8,7 @@ use Rattle.std.proofs.lemmas.Bool.Decides.{Decides-int_eq, Decides-eqb, Decides-
 use Rattle.ideal_tri.specs.Labels.{inverse, edge_of}
 use Rattle.ideal_tri.specs.Triangulations.{IsLabel, next, previous}
 use Rattle.ideal_tri.specs.Vectors.{weight, corner_count}
-use Rattle.ideal_tri.specs.Strands.{State, state_at, IsStrand, same_state, opposite, cross}
+use Rattle.ideal_tri.specs.Strands.{State, state_at, IsStrand, same_state, opposite, cross, strand_step}
 use Rattle.ideal_tri.specs.SurfaceLaws.{TriangleLaws}
 use Rattle.ideal_tri.proofs.Labels.{inverse-inverse, inverse_label, edge_of-inverse, not_own_inverse}
 
@@ -46,13 +46,13 @@ module _ (triples : List (List ℤ)) (w : List ℕ) where
 
 module _ (triples : List (List ℤ)) (w : List ℕ) (laws : TriangleLaws triples)
     (corners : (x : ℤ) → IsLabel triples x → weight w x ≡ corner_count triples w x + corner_count triples w (previous triples x)) where
-  abbrev after : ℤ → ℤ
+  abbrev pub after : ℤ → ℤ
   after x = next triples x
 
-  abbrev before : ℤ → ℤ
+  abbrev pub before : ℤ → ℤ
   before x = previous triples x
 
-  abbrev corner : ℤ → ℕ
+  abbrev pub corner : ℤ → ℕ
   corner x = corner_count triples w x
 
   before_label : (x : ℤ) → IsLabel triples x → IsLabel triples (before x)
@@ -70,12 +70,12 @@ module _ (triples : List (List ℤ)) (w : List ℕ) (laws : TriangleLaws triples
   side_before x l =
       corners (before x) (before_label x l) ∙ ap (λ (y : ℤ). corner (before x) + corner y) (before-before x l)
 
-  cross-on : (x : ℤ) (i : ℕ) → corner (before x) ≤ i → cross triples w (state_at x i) ≡ state_at (after x) (weight w x - 1 - i)
+  pub cross-on : (x : ℤ) (i : ℕ) → corner (before x) ≤ i → cross triples w (state_at x i) ≡ state_at (after x) (weight w x - 1 - i)
   cross-on x i b =
       ap (λ (t : Bool). cond t (state_at (after x) (weight w x - 1 - i)) (state_at (before x) (weight w (before x) - 1 - i)))
       (le-leb (corner (before x)) i b)
 
-  cross-round : (x : ℤ) (i : ℕ) → i < corner (before x) → cross triples w (state_at x i) ≡ state_at (before x) (weight w (before x) - 1 - i)
+  pub cross-round : (x : ℤ) (i : ℕ) → i < corner (before x) → cross triples w (state_at x i) ≡ state_at (before x) (weight w (before x) - 1 - i)
   cross-round x i b =
       ap (λ (t : Bool). cond t (state_at (after x) (weight w x - 1 - i)) (state_at (before x) (weight w (before x) - 1 - i)))
       (lt-leb (corner (before x)) i b)
@@ -123,3 +123,26 @@ module _ (triples : List (List ℤ)) (w : List ℕ) (laws : TriangleLaws triples
         | inl b ↦ (laws.moves x v.is_label).1 (ap (λ (p : State). p.label) (sym (cross-round x i b) ∙ e))
         | inr b ↦ (laws.moves x v.is_label).0 (ap (λ (p : State). p.label) (sym (cross-on x i b) ∙ e))
       ]
+
+  -- ---- one step: a strand within the corner at the tail keeps its place as it turns round that corner, any other turns back
+
+  pub step_on : (q : State) → IsStrand triples w q → q.place < corner (inverse q.label)
+      → strand_step triples w q ≡ state_at (after (inverse q.label)) q.place
+  step_on q v b =
+      let x : ℤ = inverse q.label in
+      let l : IsLabel triples x = inverse_label triples q.label v.is_label in
+      let i : ℕ = weight w q.label - 1 - q.place in
+      let far : corner (before x) ≤ i = omega (arith, v.within, corners x l, weight-inverse w q.label) in
+      cross-on x i far ∙ ap (state_at (after x)) (omega (arith, v.within, weight-inverse w q.label))
+
+  pub step_round : (q : State) → IsStrand triples w q → corner (inverse q.label) ≤ q.place
+      → ((strand_step triples w q).label ≡ before (inverse q.label)) × (0 < corner (before (inverse q.label)))
+  step_round q v b =
+      let x : ℤ = inverse q.label in
+      let l : IsLabel triples x = inverse_label triples q.label v.is_label in
+      let i : ℕ = weight w q.label - 1 - q.place in
+      let near : i < corner (before x) = omega (arith, v.within, corners x l, weight-inverse w q.label) in
+      (ap (λ (p : State). p.label) (cross-round x i near), omega arith)
+
+  pub sides_differ : (x : ℤ) → IsLabel triples x → after x ≢ before x
+  sides_differ x l e = (laws.moves (after x) (laws.label x l)).0 (sym e)
