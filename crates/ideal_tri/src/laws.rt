@@ -1,6 +1,7 @@
 //! What is proved of the definitions that the contracts cite.
 ghost use Rattle.ideal_tri.specs.WordLaws.{ReductionLaws, CyclicLaws, CurveLaws};
 ghost use Rattle.std.specs.Prelude.{ℤ, List};
+ghost use Rattle.ideal_tri.specs.CornerLaws.{CornerLaws};
 ghost use Rattle.ideal_tri.specs.DrawingLaws.{DrawingLaws, SameCurvesLaws};
 ghost use Rattle.ideal_tri.specs.SurfaceLaws.{SurfaceLaws};
 ghost use Rattle.ideal_tri.specs.Triangulations.{IsTriangulation};
@@ -24,6 +25,12 @@ pub fn same_curves_laws()
 /// one begins each curve at its least strand, in rising order.
 pub fn drawing_laws()
     ensures { (triples : List (List ℤ)) → IsTriangulation triples → DrawingLaws triples }
+{}
+
+/// What is proved of the corners of a vector: it is a multicurve where its sides are sums of counts at corners, it has a
+/// curve round a vertex exactly where all corners there have strands, and these curves can be taken off.
+pub fn corner_laws()
+    ensures { (triples : List (List ℤ)) → IsTriangulation triples → CornerLaws triples }
 {}
 
 /// What is proved of triangulations, and of walks on them.

@@ -139,6 +139,11 @@ module _ (triples : List (List ℤ)) (w : List ℕ) where
   pub least_count_there : (x : ℤ) → (y : ℤ) × IsSameVertex triples x y × (corner y ≡ least_count triples w x)
   least_count_there x = within_there (2 * edge_count triples) x
 
+-- the corner before x lies at the tail of x, as the corner named by the inverse of x does
+pub tail_corner : (triples : List (List ℤ)) → TriangleLaws triples → (x : ℤ) → IsLabel triples x
+    → IsSameVertex triples (previous triples x) (inverse x)
+tail_corner triples laws x l = record { steps = 1; reached = ap inverse (laws.round x l) }
+
 module _ (triples : List (List ℤ)) (laws : TriangleLaws triples) (w : List ℕ) where
   pub least_count_least : (x y : ℤ) → IsLabel triples x → IsSameVertex triples x y → least_count triples w x ≤ corner_count triples w y
   least_count_least x y l on = go (turn triples laws x l)
@@ -164,13 +169,9 @@ module _ (triples : List (List ℤ)) (laws : TriangleLaws triples) (w : List ℕ
         no_greater y x (SameVertex_label triples laws x y l on) (SameVertex-sym triples laws x y l on),
       )
 
-  -- the corner before x lies at the tail of x, as the corner named by the inverse of x does
-  pub tail_corner : (x : ℤ) → IsLabel triples x → IsSameVertex triples (previous triples x) (inverse x)
-  tail_corner x l = record { steps = 1; reached = ap inverse (laws.round x l) }
-
   pub least_count_tail : (x : ℤ) → IsLabel triples x → least_count triples w (previous triples x) ≡ least_count triples w (inverse x)
   least_count_tail x l =
-      least_count_same (previous triples x) (inverse x) (laws.label (next triples x) (laws.label x l)) (tail_corner x l)
+      least_count_same (previous triples x) (inverse x) (laws.label (next triples x) (laws.label x l)) (tail_corner triples laws x l)
 
 -- ---- without the curves round vertices
 
