@@ -5,7 +5,9 @@ pub mod Runs
 pub mod Cycles
 pub mod Alike
 pub mod Rising
+pub mod Sides
 pub mod Firsts
+pub mod FirstCycles
 pub mod Through
 pub mod Numbers
 pub mod States

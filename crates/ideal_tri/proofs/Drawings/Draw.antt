@@ -30,7 +30,8 @@ use Rattle.ideal_tri.proofs.Drawings.Runs as R
 use Rattle.ideal_tri.proofs.Drawings.Cycles as C
 use Rattle.ideal_tri.proofs.Drawings.Alike as L
 use Rattle.ideal_tri.proofs.Drawings.Firsts as F
-use Rattle.ideal_tri.proofs.Drawings.Firsts.{Numbering}
+use Rattle.ideal_tri.proofs.Drawings.FirstCycles as FC
+use Rattle.ideal_tri.proofs.Drawings.Sides.{Numbering}
 use Rattle.ideal_tri.proofs.Drawings.States.{Setting, pairings, numbering, to_closed, to_family, from_family}
 
 module _ (triples : List (List ℤ)) (w : List ℕ) (given : Setting triples w) where
@@ -43,7 +44,7 @@ module _ (triples : List (List ℤ)) (w : List ℕ) (given : Setting triples w) 
   -- ---- the drawing from the least strands on
 
   pub draw_is_drawing : IsDrawing triples w (draw triples w)
-  draw_is_drawing = from_family triples w given (draw triples w) (F.firsts_family s n)
+  draw_is_drawing = from_family triples w given (draw triples w) (FC.firsts_family s n)
 
   begins_at_least : (q : State) → F.IsFirst s n q → BeginsAtLeast w (curve_from triples w q)
   begins_at_least q f =
@@ -66,7 +67,7 @@ module _ (triples : List (List ℤ)) (w : List ℕ) (given : Setting triples w) 
   pub draw_starts : All (BeginsAtLeast w) (draw triples w)
   draw_starts =
       All-map (BeginsAtLeast w) (curve_from triples w) (first_strands triples w)
-      (All-weaker (F.IsFirst s n) (λ q. BeginsAtLeast w (curve_from triples w q)) begins_at_least (first_strands triples w) (F.are_firsts s n))
+      (All-weaker (F.IsFirst s n) (λ q. BeginsAtLeast w (curve_from triples w q)) begins_at_least (first_strands triples w) (FC.are_firsts s n))
 
   numbers_of_firsts : (qs : List State) → map (first_number w) (map (curve_from triples w) qs) ≡ map (strand_number w) qs
   numbers_of_firsts [] = refl
@@ -75,7 +76,7 @@ module _ (triples : List (List ℤ)) (w : List ℕ) (given : Setting triples w) 
   pub draw_rises : IsRising w (draw triples w)
   draw_rises =
       subst IsStrictlyIncreasing (sym (numbers_of_firsts (first_strands triples w)))
-      (increasing (strand_number w) (first_strands triples w) (F.firsts_rising s n))
+      (increasing (strand_number w) (first_strands triples w) (FC.firsts_rising s n))
 
   -- ---- no other
 
@@ -129,7 +130,7 @@ module _ (triples : List (List ℤ)) (w : List ℕ) (given : Setting triples w) 
     where
       go : FromFirsts runs → runs ≡ draw triples w
       go f =
-          let used : (q : State) → IsStrand triples w q → L.uses s q (L.joined s (F.cycles s n f.states)) ≢ 0 =
+          let used : (q : State) → IsStrand triples w q → L.uses s q (L.joined s (FC.cycles s n f.states)) ≢ 0 =
           λ q v none. omega (
             arith,
             (to_family triples w given runs d).once q v,
@@ -137,7 +138,7 @@ module _ (triples : List (List ℤ)) (w : List ℕ) (given : Setting triples w) 
           ) in
           f.are
           ∙ ap (map (curve_from triples w))
-          (F.firsts_only s n f.states f.first
+          (FC.firsts_only s n f.states f.first
           (rising (strand_number w) f.states (subst IsStrictlyIncreasing f.numbers r)) used)
 
   -- ---- any two

@@ -25,7 +25,7 @@ use Rattle.ideal_tri.proofs.Drawings.Orbits.{Pairings}
 use Rattle.ideal_tri.proofs.Drawings.Runs as R
 use Rattle.ideal_tri.proofs.Drawings.Cycles as C
 use Rattle.ideal_tri.proofs.Drawings.Alike as L
-use Rattle.ideal_tri.proofs.Drawings.Firsts as F
+use Rattle.ideal_tri.proofs.Drawings.Sides as S
 use Rattle.ideal_tri.proofs.Drawings.States.{Setting, pairings, to_family}
 use Rattle.ideal_tri.proofs.Drawings.Draw.{drawing_none}
 use Rattle.ideal_tri.proofs.Drawings.LeastCounts.{least_count_there, least_count_least}
@@ -193,7 +193,7 @@ module _ (triples : List (List ℤ)) (w : List ℕ) (given : Setting triples w) 
       ∙ ap (next triples) (sym (inverse-inverse x))
 
   innermost_turns : (x : ℤ) → IsLabel triples x → HasStrandsRound x → All On (C.cycle s (innermost x))
-  innermost_turns x l some = F.All-each s On (C.cycle s (innermost x)) each
+  innermost_turns x l some = S.All-each s On (C.cycle s (innermost x)) each
     where
       v : IsStrand triples w (innermost x)
       v = innermost_valid x l (some 0)
@@ -208,7 +208,7 @@ module _ (triples : List (List ℤ)) (w : List ℕ) (given : Setting triples w) 
 
   -- a run whose way back turns on turns back itself
   turns_back : (run : List State) → R.Closed s run → All On (R.back s run) → All Back run
-  turns_back run c on = F.All-each s Back run each
+  turns_back run c on = S.All-each s Back run each
     where
       valid : All (IsStrand triples w) run
       valid = R.closed_valid s run c

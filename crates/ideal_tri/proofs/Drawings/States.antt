@@ -17,7 +17,7 @@ use Rattle.ideal_tri.proofs.Drawings.Numbers.{IsSide, are_sides, strands_rise, i
 use Rattle.ideal_tri.proofs.Drawings.Orbits.{Pairings}
 use Rattle.ideal_tri.proofs.Drawings.Runs as R
 use Rattle.ideal_tri.proofs.Drawings.Alike as L
-use Rattle.ideal_tri.proofs.Drawings.Firsts.{Numbering}
+use Rattle.ideal_tri.proofs.Drawings.Sides.{Numbering}
 
 -- the number of a strand is that of its other side
 pub opposite_number : (w : List ℕ) (x : ℤ) (i : ℕ) → i < weight w x → strand_number w (opposite w (state_at x i)) ≡ strand_number w (state_at x i)
