@@ -13,6 +13,7 @@ pub mod Numbers
 pub mod States
 pub mod Draw
 pub mod LeastCounts
+pub mod Turns
 pub mod Round
 pub mod Words
 pub mod Examples

@@ -1,23 +1,22 @@
--- Curves round vertices: a drawing has one exactly where all corners of a vertex have strands.
+-- A drawing has a word, and none that runs round a vertex, exactly where something is crossed and each vertex has a corner
+-- without strands.
 --
--- A curve turns on where each of its states lies within the corner at the tail of its label; it keeps its place as it turns,
--- and goes through all corners of one vertex, which therefore have strands. Where it turns back it goes through them the
--- other way round. Conversely, where all corners of a vertex have strands, the innermost of them, at place 0, goes round.
-use Rattle.std.proofs.Common.{ℕ, zero, suc, ℤ, Bool, List, [], ◌∷◌, ◌++◌, ◌≡◌, ◌≢◌, ◌≤◌, ◌<◌, ◌+◌, ◌⊎◌, ◌↔◌, inl, inr, refl, sym, ◌∙◌, ap, subst, arith, length, map}
-use Rattle.std.specs.List.{All, count_by}
-use Rattle.std.proofs.lemmas.Bool.{cases_lt, cases_eq}
+-- Where all corners of a vertex have strands, the innermost of them, at place 0, keeps that place as it turns from corner to
+-- corner. So its curve runs round the vertex, and the drawing has it, or its way back, which turns the other way.
+use Rattle.std.proofs.Common.{ℕ, zero, suc, ℤ, List, [], ◌∷◌, ◌++◌, ◌≡◌, ◌≢◌, ◌≤◌, ◌<◌, ◌+◌, ◌⊎◌, ◌↔◌, inl, inr, refl, sym, ◌∙◌, ap, subst, arith}
+use Rattle.std.specs.List.{All}
+use Rattle.std.proofs.lemmas.Bool.{cases_eq}
 use Rattle.std.proofs.lemmas.List.Elements.{All-nil, All-cons, All-head, All-tail, All-map, All-weaker}
 use Rattle.ideal_tri.specs.Labels.{inverse}
-use Rattle.ideal_tri.specs.Words.{closed_up, IsRotation}
 use Rattle.ideal_tri.specs.Triangulations.{IsLabel, next, previous}
-use Rattle.ideal_tri.specs.Vectors.{weight, corner_count}
+use Rattle.ideal_tri.specs.Vectors.{corner_count}
 use Rattle.ideal_tri.specs.Strands.{State, state_at, IsStrand, opposite, strand_step, IsDrawing, word_of, words_of}
-use Rattle.ideal_tri.specs.Peripheral.{AllNeighbours, TurnsOn, TurnsBack, IsPeripheral}
+use Rattle.ideal_tri.specs.Peripheral.{TurnsOn, TurnsBack, IsPeripheral}
 use Rattle.ideal_tri.specs.Vertices.{corner_step, corner_after, IsSameVertex}
 use Rattle.ideal_tri.specs.PeripheralParts.{IsNonperipheral, HasFreeCorners, least_count}
 use Rattle.ideal_tri.proofs.Labels.{inverse-inverse, inverse_label}
 use Rattle.ideal_tri.proofs.Rotations.{Rotation-sym, Rotation-keeps}
-use Rattle.ideal_tri.proofs.Turning.{corner_step_label, corner_step-injective, corner_after_label, corner_after-suc, SameVertex-sym, SameVertex_label}
+use Rattle.ideal_tri.proofs.Turning.{corner_step_label, corner_after_label}
 use Rattle.ideal_tri.proofs.Drawings.Through as T
 use Rattle.ideal_tri.proofs.Drawings.Through.{weight-inverse}
 use Rattle.ideal_tri.proofs.Drawings.Orbits as O
@@ -29,6 +28,7 @@ use Rattle.ideal_tri.proofs.Drawings.Sides as S
 use Rattle.ideal_tri.proofs.Drawings.States.{Setting, pairings, to_family}
 use Rattle.ideal_tri.proofs.Drawings.Draw.{drawing_none}
 use Rattle.ideal_tri.proofs.Drawings.LeastCounts.{least_count_there, least_count_least}
+use Rattle.ideal_tri.proofs.Drawings.Turns as N
 
 module _ (triples : List (List ℤ)) (w : List ℕ) (given : Setting triples w) where
   abbrev s : Pairings State
@@ -40,122 +40,11 @@ module _ (triples : List (List ℤ)) (w : List ℕ) (given : Setting triples w) 
   abbrev corner : ℤ → ℕ
   corner x = corner_count triples w x
 
-  -- ---- neighbours in the word of a run
-
-  -- the letter of each state and that of its step
-  abbrev AllSteps : (ℤ → ℤ → Type 0) → List State → Type 0
-  AllSteps Rel run = All (λ p. Rel p.label (step p).label) run
-
-  to_steps : (Rel : ℤ → ℤ → Type 0) (q r : State) (run : List State) → R.Runs s q run r
-      → AllNeighbours Rel (word_of run ++ (r.label ∷ [])) → AllSteps Rel run
-  to_steps Rel q r [] h n = All-nil (λ p. Rel p.label (step p).label)
-  to_steps Rel q r (p ∷ []) h n =
-      All-cons (λ p. Rel p.label (step p).label) p []
-      (subst (λ (u : State). Rel p.label u.label) (sym h.1 ∙ ap step (sym h.0)) n.0) (All-nil (λ p. Rel p.label (step p).label))
-  to_steps Rel q r (p ∷ (p' ∷ run)) h n =
-      All-cons (λ p. Rel p.label (step p).label) p (p' ∷ run)
-      (subst (λ (u : State). Rel p.label u.label) (h.1.0 ∙ ap step (sym h.0)) n.0)
-      (to_steps Rel (step q) r (p' ∷ run) h.1 n.1)
-
-  from_steps : (Rel : ℤ → ℤ → Type 0) (q r : State) (run : List State) → R.Runs s q run r
-      → AllSteps Rel run → AllNeighbours Rel (word_of run ++ (r.label ∷ []))
-  from_steps Rel q r [] h a = tt
-  from_steps Rel q r (p ∷ []) h a = (
-    subst (λ (u : State). Rel p.label u.label) (ap step h.0 ∙ h.1) (All-head (λ p. Rel p.label (step p).label) p [] a),
-    tt,
-  )
-  from_steps Rel q r (p ∷ (p' ∷ run)) h a = (
-    subst (λ (u : State). Rel p.label u.label) (ap step h.0 ∙ sym h.1.0) (All-head (λ p. Rel p.label (step p).label) p (p' ∷ run) a),
-    from_steps Rel (step q) r (p' ∷ run) h.1 (All-tail (λ p. Rel p.label (step p).label) p (p' ∷ run) a),
-  )
-
-  closed_to_steps : (Rel : ℤ → ℤ → Type 0) (run : List State) → R.Closed s run → AllNeighbours Rel (closed_up (word_of run)) → AllSteps Rel run
-  closed_to_steps Rel [] c n = absurd (c.not_empty refl)
-  closed_to_steps Rel (q ∷ run) c n = to_steps Rel q q (q ∷ run) (R.closed_at_head s q run c).1 n
-
-  closed_from_steps : (Rel : ℤ → ℤ → Type 0) (run : List State) → R.Closed s run → AllSteps Rel run → AllNeighbours Rel (closed_up (word_of run))
-  closed_from_steps Rel [] c a = absurd (c.not_empty refl)
-  closed_from_steps Rel (q ∷ run) c a = from_steps Rel q q (q ∷ run) (R.closed_at_head s q run c).1 a
-
-  -- ---- turning on, turning back
-
   abbrev On : State → Type 0
-  On q = (step q).label ≡ next triples (inverse q.label)
+  On q = N.On triples w given q
 
   abbrev Back : State → Type 0
-  Back q = (step q).label ≡ previous triples (inverse q.label)
-
-  there : (q : State) → IsStrand triples w q → IsLabel triples (inverse q.label)
-  there q v = inverse_label triples q.label v.is_label
-
-  on_corner : (q : State) → IsStrand triples w q → On q → 0 < corner (inverse q.label)
-  on_corner q v on =
-      elim (cases_lt q.place (corner (inverse q.label))) [
-        | inl b ↦ omega arith
-        | inr b ↦
-            absurd
-            (T.sides_differ triples w given.laws given.corners (inverse q.label) (there q v)
-            (sym on ∙ (T.step_round triples w given.laws given.corners q v b).0))
-      ]
-
-  back_corner : (q : State) → IsStrand triples w q → Back q → 0 < corner (previous triples (inverse q.label))
-  back_corner q v back =
-      elim (cases_lt q.place (corner (inverse q.label))) [
-        | inl b ↦
-            absurd
-            (T.sides_differ triples w given.laws given.corners (inverse q.label) (there q v)
-            (sym (ap (λ (p : State). p.label) (T.step_on triples w given.laws given.corners q v b)) ∙ back))
-        | inr b ↦ (T.step_round triples w given.laws given.corners q v b).1
-      ]
-
-  -- the corners that a curve turns round have strands, all round the vertex
-
-  on_corners : (run : List State) → R.Closed s run → All On run → (n : ℕ) (p : State) → O.count s p run ≢ 0
-      → 0 < corner (corner_after triples n (inverse p.label))
-  on_corners run c on zero p some =
-      on_corner p (O.All-counted s (IsStrand triples w) p run (R.closed_valid s run c) some) (O.All-counted s On p run on some)
-  on_corners run c on (suc n) p some =
-      let turned : inverse (step p).label ≡ corner_step triples (inverse p.label) = ap inverse (O.All-counted s On p run on some) in
-      subst (λ (x : ℤ). 0 < corner (corner_after triples n x)) turned
-      (on_corners run c on n (step p) (R.closed_goes_on s p run c some))
-
-  back_corners : (run : List State) → R.Closed s run → All Back run → (n : ℕ) (p : State) (z : ℤ) → O.count s p run ≢ 0
-      → IsLabel triples z → corner_after triples n z ≡ previous triples (inverse p.label) → 0 < corner z
-  back_corners run c back zero p z some l e =
-      subst (λ (x : ℤ). 0 < corner x) (sym e)
-      (back_corner p (O.All-counted s (IsStrand triples w) p run (R.closed_valid s run c) some) (O.All-counted s Back p run back some))
-  back_corners run c back (suc n) p z some l e =
-      let more : O.count s (step p) run ≢ 0 = R.closed_goes_on s p run c some in
-      let v : IsStrand triples w (step p) = O.All-counted s (IsStrand triples w) (step p) run (R.closed_valid s run c) more in
-      let x : ℤ = (step p).label in
-      let m : IsLabel triples (inverse x) = there (step p) v in
-      let here : corner_step triples (previous triples (inverse x)) ≡ x = ap inverse (given.laws.round (inverse x) m) ∙ inverse-inverse x in
-      back_corners run c back n (step p) z more l
-      (corner_step-injective triples given.laws (corner_after triples n z) (previous triples (inverse x))
-      (corner_after_label triples given.laws n z l) (given.laws.label (next triples (inverse x)) (given.laws.label (inverse x) m))
-      (sym (corner_after-suc triples n z) ∙ e ∙ sym (O.All-counted s Back p run back some) ∙ sym here))
-
-  -- so none turns round a vertex with a free corner
-  none_round : HasFreeCorners triples w → (run : List State) → R.Closed s run → ¬ IsPeripheral triples (word_of run)
-  none_round free [] c h = c.not_empty refl
-  none_round free (p ∷ run) c (some, inl on) =
-      let v : IsStrand triples w p = (R.closed_at_head s p run c).0 in
-      let (y, at, e) = free (inverse p.label) (there p v) in
-      let here : O.count s p (p ∷ run) ≢ 0 = λ none. omega (arith, O.count-same s p p run refl) in
-      let strands : 0 < corner (corner_after triples at.steps (inverse p.label)) =
-      on_corners (p ∷ run) c (closed_to_steps (λ x y. y ≡ next triples (inverse x)) (p ∷ run) c on) at.steps p here in
-      omega (arith, ap corner at.reached, e)
-  none_round free (p ∷ run) c (some, inr back) =
-      let v : IsStrand triples w p = (R.closed_at_head s p run c).0 in
-      let x : ℤ = previous triples (inverse p.label) in
-      let l : IsLabel triples x = given.laws.label (next triples (inverse p.label)) (given.laws.label (inverse p.label) (there p v)) in
-      let (y, at, e) = free x l in
-      let round : IsSameVertex triples y x = SameVertex-sym triples given.laws x y l at in
-      let here : O.count s p (p ∷ run) ≢ 0 = λ none. omega (arith, O.count-same s p p run refl) in
-      let strands : 0 < corner y =
-      back_corners (p ∷ run) c (closed_to_steps (λ x y. y ≡ previous triples (inverse x)) (p ∷ run) c back) round.steps p y here
-      (SameVertex_label triples given.laws x y l at) round.reached in
-      omega (arith, e)
+  Back q = N.Back triples w given q
 
   -- ---- the innermost curve
 
@@ -246,11 +135,11 @@ module _ (triples : List (List ℤ)) (w : List ℕ) (given : Setting triples w) 
       way : L.IsAlike s run (C.cycle s (innermost x)) → TurnsOn triples (word_of run) ⊎ TurnsBack triples (word_of run)
       way (inl r) =
           inl
-          (closed_from_steps (λ x y. y ≡ next triples (inverse x)) run h.closed
+          (N.closed_from_steps triples w given (λ x y. y ≡ next triples (inverse x)) run h.closed
           (Rotation-keeps On (C.cycle s (innermost x)) run (Rotation-sym run (C.cycle s (innermost x)) r) turns))
       way (inr r) =
           inr
-          (closed_from_steps (λ x y. y ≡ previous triples (inverse x)) run h.closed
+          (N.closed_from_steps triples w given (λ x y. y ≡ previous triples (inverse x)) run h.closed
           (turns_back run h.closed
           (Rotation-keeps On (C.cycle s (innermost x)) (R.back s run) (Rotation-sym (R.back s run) (C.cycle s (innermost x)) r) turns)))
 
@@ -316,6 +205,6 @@ module _ (triples : List (List ℤ)) (w : List ℕ) (given : Setting triples w) 
       some = λ e. h.0 ((drawing_none triples w given runs d).0 (words_nil runs e));
       none_round =
           All-map (λ word. ¬ IsPeripheral triples word) word_of runs
-          (All-weaker (R.Closed s) (λ run. ¬ IsPeripheral triples (word_of run)) (none_round h.1) runs (to_family triples w given runs d).closed);
+          (All-weaker (R.Closed s) (λ run. ¬ IsPeripheral triples (word_of run)) (N.none_round triples w given h.1) runs (to_family triples w given runs d).closed);
     },
   )
