@@ -12,6 +12,7 @@ pub mod Through
 pub mod Numbers
 pub mod States
 pub mod Draw
+pub mod Tracing
 pub mod LeastCounts
 pub mod Turns
 pub mod Round

@@ -42,13 +42,17 @@ curve_from triples w q =
 abbrev pub is_least_of : List ℕ → State → List State → Bool
 is_least_of w q run = list_all (λ p. nat_le (strand_number w q) (strand_number w p)) run
 
--- the strands that are the least of their curves
-abbrev pub first_strands : List (List ℤ) → List ℕ → List State
-first_strands triples w = filter (λ q. is_least_of w q (curve_from triples w q)) (strands w)
+-- those of the strands that are the least of their curves
+abbrev pub least_among : List (List ℤ) → List ℕ → List State → List State
+least_among triples w qs = filter (λ q. is_least_of w q (curve_from triples w q)) qs
+
+-- the curves from those on
+abbrev pub curves_among : List (List ℤ) → List ℕ → List State → List (List State)
+curves_among triples w qs = map (curve_from triples w) (least_among triples w qs)
 
 -- the curves of a vector, each from its least strand on
 abbrev pub draw : List (List ℤ) → List ℕ → List (List State)
-draw triples w = map (curve_from triples w) (first_strands triples w)
+draw triples w = curves_among triples w (strands w)
 
 -- ---- the two properties that fix it
 

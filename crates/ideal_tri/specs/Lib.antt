@@ -11,6 +11,7 @@ pub mod Peripheral
 pub mod WordLaws
 pub mod Drawings
 pub mod DrawingLaws
+pub mod StrandLaws
 pub mod SurfaceLaws
 pub mod Relabellings
 pub mod Flips

@@ -3,6 +3,7 @@ ghost use Rattle.ideal_tri.specs.WordLaws.{ReductionLaws, CyclicLaws, CurveLaws}
 ghost use Rattle.std.specs.Prelude.{ℤ, List};
 ghost use Rattle.ideal_tri.specs.CornerLaws.{CornerLaws};
 ghost use Rattle.ideal_tri.specs.DrawingLaws.{DrawingLaws, SameCurvesLaws};
+ghost use Rattle.ideal_tri.specs.StrandLaws.{StrandLaws};
 ghost use Rattle.ideal_tri.specs.SurfaceLaws.{SurfaceLaws};
 ghost use Rattle.ideal_tri.specs.Triangulations.{IsTriangulation};
 ghost use Rattle.ideal_tri.specs.FlipLaws.{QuadrilateralLaws};
@@ -25,6 +26,11 @@ pub fn same_curves_laws()
 /// one begins each curve at its least strand, in rising order.
 pub fn drawing_laws()
     ensures { (triples : List (List ℤ)) → IsTriangulation triples → DrawingLaws triples }
+{}
+
+/// What is proved of the steps of strands: where they lead, and how the curves of a drawing are found strand by strand.
+pub fn strand_laws()
+    ensures { (triples : List (List ℤ)) → IsTriangulation triples → StrandLaws triples }
 {}
 
 /// What is proved of the corners of a vector: it is a multicurve where its sides are sums of counts at corners, it has a

@@ -19,8 +19,8 @@ mod vertex;
 
 pub use label::Label;
 pub use laws::{
-    corner_laws, drawing_laws, flip_laws, same_curves_laws, surface_laws, triple_laws, vertex_laws,
-    word_laws,
+    corner_laws, drawing_laws, flip_laws, same_curves_laws, strand_laws, surface_laws, triple_laws,
+    vertex_laws, word_laws,
 };
 pub use memory::Memory;
 pub use tri::{Tri, TriError};

@@ -58,6 +58,18 @@ module _ {A : Type 0} (s : Pairings A) where
                 ]
           ]
 
+  -- so it is no longer than there are sides
+  pub cycle_short : (x : A) → s.Valid x → length (C.cycle s x) ≤ length s.sides
+  cycle_short x v =
+      let run : List A = C.cycle s x in
+      let valid : All s.Valid run = R.closed_valid s run (C.cycle_closed s x v) in
+      let fewer : length (run ++ R.back s run) ≤ length (C.all s) =
+      O.no_longer s s.Valid (run ++ R.back s run) (C.all s) (R.both_valid s run valid)
+      (λ y u.
+      let some : O.count s y (C.all s) ≢ 0 = C.all_counted s y u in
+      omega (arith, count_by-append (s.same y) run (R.back s run), R.count-back s y run u valid, (cycle_simple x v).once y u)) in
+      omega (arith, length-append run (R.back s run), R.length-back s run, C.all_long s)
+
   -- ---- alike: up to rotation and direction
 
   abbrev pub IsAlike : List A → List A → Type 0

@@ -29,17 +29,17 @@ module _ {A : Type 0} (s : Pairings A) where
 
   -- ---- back within the bound
 
-  abbrev all : List A
+  abbrev pub all : List A
   all = s.sides ++ R.back s s.sides
 
-  all_counted : (x : A) → s.Valid x → O.count s x all ≢ 0
+  pub all_counted : (x : A) → s.Valid x → O.count s x all ≢ 0
   all_counted x v none =
       let both : O.count s x all ≡ O.count s x s.sides + O.count s (s.opposite x) s.sides =
       count_by-append (s.same x) s.sides (R.back s s.sides)
       ∙ ap (λ (n : ℕ). O.count s x s.sides + n) (R.count-back s x s.sides v s.sides_valid) in
       elim (s.covers x v) [ inl here ↦ here (omega arith) | inr there ↦ there (omega arith) ]
 
-  all_long : length all ≡ bound
+  pub all_long : length all ≡ bound
   all_long = omega (arith, length-append s.sides (R.back s s.sides), R.length-back s s.sides)
 
   returns : (x : A) → s.Valid x → O.count s x (orbit step bound (step x)) ≢ 0
@@ -54,10 +54,10 @@ module _ {A : Type 0} (s : Pairings A) where
   -- ---- the cycle
 
   -- what comes before x in a list that has it
-  abbrev front : A → List A → List A
+  abbrev pub front : A → List A → List A
   front x xs = before_first (s.same x) xs
 
-  front-count : (x : A) (xs : List A) → O.count s x (front x xs) ≡ 0
+  pub front-count : (x : A) (xs : List A) → O.count s x (front x xs) ≡ 0
   front-count x [] = refl
   front-count x (y ∷ ys) =
       ap (O.count s x) (before_first-cons (s.same x) y ys)
@@ -86,10 +86,13 @@ module _ {A : Type 0} (s : Pairings A) where
   abbrev pub rest_of : A → List A
   rest_of x = front x (orbit step bound (step x))
 
+  pub rest_count : (x : A) → O.count s x (rest_of x) ≡ 0
+  rest_count x = front-count x (orbit step bound (step x))
+
   abbrev pub cycle : A → List A
   cycle x = x ∷ rest_of x
 
-  cycle_runs : (x : A) → s.Valid x → R.Runs s (step x) (rest_of x) x
+  pub cycle_runs : (x : A) → s.Valid x → R.Runs s (step x) (rest_of x) x
   cycle_runs x v = front_runs bound x (step x) (returns x v)
 
   pub cycle_closed : (x : A) → s.Valid x → R.Closed s (cycle x)

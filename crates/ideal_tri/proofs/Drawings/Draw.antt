@@ -17,7 +17,7 @@ use Rattle.ideal_tri.specs.Curves.{IsSameCurve, IsSameCurves, is_same_curve, cro
 use Rattle.ideal_tri.specs.Triangulations.{edge_count}
 use Rattle.ideal_tri.specs.Vectors.{weight}
 use Rattle.ideal_tri.specs.Strands.{State, state_at, IsStrand, IsClosedRun, IsDrawing, opposite, word_of, words_of}
-use Rattle.ideal_tri.specs.Drawings.{strand_number, strands, curve_from, is_least_of, first_strands, draw, BeginsAtLeast, first_number, IsRising}
+use Rattle.ideal_tri.specs.Drawings.{strand_number, strands, curve_from, is_least_of, least_among, draw, BeginsAtLeast, first_number, IsRising}
 use Rattle.ideal_tri.proofs.Rotations.{Rotation-map, is_same_curve-respects}
 use Rattle.ideal_tri.proofs.Crossings.{drawing_counts}
 use Rattle.ideal_tri.proofs.Drawings.Tallies.{count_by-map}
@@ -66,8 +66,8 @@ module _ (triples : List (List ℤ)) (w : List ℕ) (given : Setting triples w) 
 
   pub draw_starts : All (BeginsAtLeast w) (draw triples w)
   draw_starts =
-      All-map (BeginsAtLeast w) (curve_from triples w) (first_strands triples w)
-      (All-weaker (F.IsFirst s n) (λ q. BeginsAtLeast w (curve_from triples w q)) begins_at_least (first_strands triples w) (FC.are_firsts s n))
+      All-map (BeginsAtLeast w) (curve_from triples w) (least_among triples w (strands w))
+      (All-weaker (F.IsFirst s n) (λ q. BeginsAtLeast w (curve_from triples w q)) begins_at_least (least_among triples w (strands w)) (FC.are_firsts s n))
 
   numbers_of_firsts : (qs : List State) → map (first_number w) (map (curve_from triples w) qs) ≡ map (strand_number w) qs
   numbers_of_firsts [] = refl
@@ -75,8 +75,8 @@ module _ (triples : List (List ℤ)) (w : List ℕ) (given : Setting triples w) 
 
   pub draw_rises : IsRising w (draw triples w)
   draw_rises =
-      subst IsStrictlyIncreasing (sym (numbers_of_firsts (first_strands triples w)))
-      (increasing (strand_number w) (first_strands triples w) (FC.firsts_rising s n))
+      subst IsStrictlyIncreasing (sym (numbers_of_firsts (least_among triples w (strands w))))
+      (increasing (strand_number w) (least_among triples w (strands w)) (FC.firsts_rising s n))
 
   -- ---- no other
 

@@ -5,7 +5,8 @@ use Rattle.std.specs.Prelude.{slice_index}
 use Rattle.std.proofs.lemmas.Bool.{cases_lt, cases_eq}
 use Rattle.std.proofs.lemmas.List.{take_at, get_or_at}
 use Rattle.std.proofs.lemmas.List.Elements.{All-nil, All-cons, All-head, All-tail, All-append, All-map, All-weaker}
-use Rattle.std.proofs.lemmas.List.Sums.{sum_by_push}
+use Rattle.std.proofs.lemmas.List.Sums.{sum_by_push, sum_by-cons}
+use Rattle.std.proofs.lemmas.List.FromFn.{length-map-range_with_len}
 use Rattle.ideal_tri.specs.Labels.{edge_of}
 use Rattle.ideal_tri.specs.Triangulations.{edge_count}
 use Rattle.ideal_tri.specs.Vectors.{weight}
@@ -63,6 +64,18 @@ sides_from w u (n ∷ v) e is at =
 
 pub are_sides : (w : List ℕ) → All (IsSide w) (strands w)
 are_sides w = sides_from w [] w 0 refl refl
+
+pub length-strands_from : (e : ℕ) (v : List ℕ) → length (strands_from e v) ≡ sum v
+unfolding row
+length-strands_from e [] = refl
+length-strands_from e (n ∷ v) =
+    omega (
+      arith,
+      length-append (row e n) (strands_from (suc e) v),
+      length-map-range_with_len (state_at (pos e)) 0 n,
+      length-strands_from (suc e) v,
+      sum_by-cons (λ k. k) n v,
+    )
 
 -- ---- their numbers
 

@@ -1,5 +1,5 @@
 -- Runs: things in a row, each the step of the one before. They join, turn back, and from each thing one run comes back.
-use Rattle.std.proofs.Common.{ℕ, zero, suc, Bool, true, false, cond, not, List, [], ◌∷◌, ◌++◌, ◌≡◌, ◌≢◌, ◌≤◌, ◌+◌, ◌*◌, ◌⊎◌, inl, inr, refl, sym, ◌∙◌, ap, subst, append_assoc, arith, length, length-append, map, take, one-add}
+use Rattle.std.proofs.Common.{ℕ, zero, suc, Bool, true, false, cond, not, List, [], ◌∷◌, ◌++◌, ◌≡◌, ◌≢◌, ◌≤◌, ◌<◌, ◌+◌, ◌*◌, ◌⊎◌, inl, inr, refl, sym, ◌∙◌, ap, subst, append_assoc, arith, length, length-append, map, take, one-add}
 use Rattle.std.specs.List.{All, count_by, before_first, prefix_len}
 use Rattle.std.proofs.lemmas.Bool.{cases_Bool, cases_eq}
 use Rattle.std.proofs.lemmas.List.{length-map, append-nil}
@@ -43,6 +43,23 @@ module _ {A : Type 0} (s : Pairings A) where
   runs_orbit x y [] h = refl
   runs_orbit x y (u ∷ run) h = ap (λ (z : A). z ∷ run) h.0 ∙ ap (λ (zs : List A). x ∷ zs) (runs_orbit (step x) y run h.1)
 
+  -- each is followed by its step
+  runs_shift : (x y : A) (run : List A) → Runs x run y → x ∷ map step run ≡ run ++ (y ∷ [])
+  runs_shift x y [] h = ap (λ (z : A). z ∷ []) h
+  runs_shift x y (u ∷ run) h =
+      ap (λ (z : A). x ∷ (step z ∷ map step run)) h.0
+      ∙ ap (λ (zs : List A). x ∷ zs) (runs_shift (step x) y run h.1)
+      ∙ ap (λ (z : A). z ∷ (run ++ (y ∷ []))) (sym h.0)
+
+  -- one run has come to y and the other not
+  pub runs_shorter : (x y z : A) (run other : List A) → Runs x run z → Runs x other y → O.count s y run ≡ 0 → z ≢ y
+      → length run < length other
+  runs_shorter x y z [] [] h k none ne = absurd (ne (sym h ∙ k))
+  runs_shorter x y z [] (v ∷ other) h k none ne = omega arith
+  runs_shorter x y z (u ∷ run) [] h k none ne = absurd (omega (arith, O.count-same s y u run (sym k ∙ sym h.0)))
+  runs_shorter x y z (u ∷ run) (v ∷ other) h k none ne =
+      omega (arith, runs_shorter (step x) y z run other h.1 k.1 (omega (arith, count_by-cons (s.same y) u run)) ne)
+
   -- two runs that end where they first come to y
   pub runs_unique : (x y : A) (run other : List A) → Runs x run y → Runs x other y → O.count s y run ≡ 0 → O.count s y other ≡ 0 → run ≡ other
   runs_unique x y [] [] h k none no_other = refl
@@ -63,6 +80,15 @@ module _ {A : Type 0} (s : Pairings A) where
   pub length-back : (run : List A) → length (back run) ≡ length run
   length-back [] = refl
   length-back (x ∷ run) = omega (arith, length-append (back run) (s.opposite x ∷ []), length-back run)
+
+  back_valid : (run : List A) → All s.Valid run → All s.Valid (back run)
+  back_valid [] h = All-nil s.Valid
+  back_valid (x ∷ run) h =
+      All-append s.Valid (back run) (s.opposite x ∷ []) (back_valid run (All-tail s.Valid x run h))
+      (All-cons s.Valid (s.opposite x) [] (s.opposite_valid x (All-head s.Valid x run h)) (All-nil s.Valid))
+
+  pub both_valid : (run : List A) → All s.Valid run → All s.Valid (run ++ back run)
+  both_valid run h = All-append s.Valid run (back run) h (back_valid run h)
 
   pub runs_back : (x y : A) (run : List A) → s.Valid x → Runs x run y → Runs (step (s.opposite y)) (back run) (step (s.opposite x))
   runs_back x y [] v h = ap (λ (z : A). step (s.opposite z)) (sym h)
@@ -110,6 +136,18 @@ module _ {A : Type 0} (s : Pairings A) where
   closed_at_head x run c =
       let at : x ≡ c.start = c.closes.0 in
       (subst s.Valid (sym at) c.valid, subst (λ (z : A). Runs z (x ∷ run) z) (sym at) c.closes)
+
+  -- a closed run passes a thing as often as its step
+  pub count-closed : (x : A) (run : List A) → s.Valid x → Closed run → O.count s (step x) run ≡ O.count s x run
+  count-closed x run v c =
+      omega (
+        arith,
+        ap (O.count s (step x)) (runs_shift c.start c.start run c.closes),
+        count_by-cons (s.same (step x)) c.start (map step run),
+        O.count-step s x run v (closed_valid run c),
+        count_by-append (s.same (step x)) run (c.start ∷ []),
+        count_by-cons (s.same (step x)) c.start [],
+      )
 
   -- a run goes on from each thing that it passes, to a thing that it passes or to its end
   goes_on : (x y z : A) (run : List A) → Runs x run z → O.count s y run ≢ 0 → (O.count s (step y) run ≢ 0) ⊎ (step y ≡ z)

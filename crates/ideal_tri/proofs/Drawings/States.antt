@@ -73,7 +73,7 @@ module _ (triples : List (List ℤ)) (w : List ℕ) (given : Setting triples w) 
 
   -- ---- closed runs and drawings as families
 
-  to_runs : (q r : State) (run : List State) → Runs triples w q run r → R.Runs pairings q run r
+  pub to_runs : (q r : State) (run : List State) → Runs triples w q run r → R.Runs pairings q run r
   to_runs q r [] h = h
   to_runs q r (p ∷ run) h = (h.0, to_runs (strand_step triples w q) r run h.1)
 
