@@ -1,8 +1,11 @@
--- The cycles of the first sides: a family that uses each pair once, and the only one whose runs begin at their least things
+-- The cycles of the first sides: a family that uses each pair once, and the only one whose runs begin at their least
+-- things
 -- and stand in rising order.
 --
--- Each thing is used by the cycle of exactly one first side. The runs of any family of this kind are the cycles of sides that
--- are first, and these are all of them, since each first side is used. Going through the sides in order, a side is first
+-- Each thing is used by the cycle of exactly one first side. The runs of any family of this kind are the cycles of
+-- sides that
+-- are first, and these are all of them, since each first side is used. Going through the sides in order, a side is
+-- first
 -- exactly where no cycle so far uses it.
 use Rattle.std.proofs.Common.{ℕ, Bool, true, cond, List, [], ◌∷◌, ◌++◌, ◌≡◌, ◌≢◌, ◌≤◌, ◌<◌, ◌+◌, ◌⊎◌, ◌↔◌, inl, inr, refl, sym, ◌∙◌, ap, subst, arith, map}
 use Rattle.std.specs.List.{All, sum_by, filter}
@@ -46,7 +49,8 @@ module _ {A : Type 0} (s : Pairings A) (n : Numbering s) where
 
       least : (x : A) → O.count s x firsts ≢ 0 → F.is_least s n x (C.cycle s x) ≡ true
       least x some =
-          O.All-counted s (λ y. F.is_least s n y (C.cycle s y) ≡ true) x firsts (filter_passes (λ y. F.is_least s n y (C.cycle s y)) s.sides) some
+          O.All-counted s (λ y. F.is_least s n y (C.cycle s y) ≡ true) x firsts
+          (filter_passes (λ y. F.is_least s n y (C.cycle s y)) s.sides) some
 
   pub firsts_rising : Rising n.number firsts
   firsts_rising = rising-filter n.number (λ x. F.is_least s n x (C.cycle s x)) s.sides n.rising
@@ -82,7 +86,9 @@ module _ {A : Type 0} (s : Pairings A) (n : Numbering s) where
       each : (y : A) → F.IsFirst s n y → L.uses s x (C.cycle s y) ≡ cond (s.same m.at y) 1 0
       each y f =
           elim (O.same_or_other s m.at y) [
-            | inl e ↦ ap (λ (z : A). L.uses s x (C.cycle s z)) (sym e) ∙ own ∙ sym (one_if (s.same m.at y) (O.same-true s m.at y e))
+            | inl e ↦
+                ap (λ (z : A). L.uses s x (C.cycle s z)) (sym e) ∙ own ∙ sym
+                (one_if (s.same m.at y) (O.same-true s m.at y e))
             | inr ne ↦ unused y f ne ∙ sym (none_if (s.same m.at y) (O.same-false s m.at y ne))
           ]
         where
@@ -113,11 +119,13 @@ module _ {A : Type 0} (s : Pairings A) (n : Numbering s) where
   -- ---- no other
 
   -- one of the cycles uses what they use together
-  user : (x : A) (xs : List A) → L.uses s x (L.joined s (cycles xs)) ≢ 0 → (y : A) × (O.count s y xs ≢ 0) × (L.uses s x (C.cycle s y) ≢ 0)
+  user : (x : A) (xs : List A) → L.uses s x (L.joined s (cycles xs)) ≢ 0
+      → (y : A) × (O.count s y xs ≢ 0) × (L.uses s x (C.cycle s y) ≢ 0)
   user x [] some = absurd (some refl)
   user x (y ∷ ys) some =
       elim (cases_eq (L.uses s x (C.cycle s y)) 0) [
-        | inl none ↦ later (user x ys (λ gone. some (omega (arith, L.uses-append s x (C.cycle s y) (L.joined s (cycles ys))))))
+        | inl none ↦
+            later (user x ys (λ gone. some (omega (arith, L.uses-append s x (C.cycle s y) (L.joined s (cycles ys))))))
         | inr here ↦ (y, λ none. omega (arith, O.count-same s y y ys refl), here)
       ]
     where
@@ -141,7 +149,8 @@ module _ {A : Type 0} (s : Pairings A) (n : Numbering s) where
 
   -- ---- going through the sides in order
 
-  before_it : (x y : A) (front rest : List A) → Rising n.number (front ++ (x ∷ rest)) → O.count s y front ≢ 0 → n.number y < n.number x
+  before_it : (x y : A) (front rest : List A) → Rising n.number (front ++ (x ∷ rest)) → O.count s y front ≢ 0
+      → n.number y < n.number x
   before_it x y [] rest r some = absurd (some refl)
   before_it x y (z ∷ front) rest r some =
       elim (O.count-cases s y z front some) [
@@ -152,7 +161,8 @@ module _ {A : Type 0} (s : Pairings A) (n : Numbering s) where
         | inr later ↦ before_it x y front rest r.1 later
       ]
 
-  after_it : (x y : A) (front rest : List A) → Rising n.number (front ++ (x ∷ rest)) → O.count s y (front ++ (x ∷ rest)) ≢ 0
+  after_it : (x y : A) (front rest : List A) → Rising n.number (front ++ (x ∷ rest))
+      → O.count s y (front ++ (x ∷ rest)) ≢ 0
       → n.number y < n.number x → O.count s y front ≢ 0
   after_it x y [] rest r some less none =
       elim (O.count-cases s y x rest some) [
@@ -165,10 +175,12 @@ module _ {A : Type 0} (s : Pairings A) (n : Numbering s) where
         | inr later ↦ after_it x y front rest r.1 later less (omega (arith, count_by-cons (s.same y) z front))
       ]
 
-  uses-among : (x y : A) (xs : List A) → O.count s y xs ≢ 0 → L.uses s x (C.cycle s y) ≢ 0 → L.uses s x (L.joined s (cycles xs)) ≢ 0
+  uses-among : (x y : A) (xs : List A) → O.count s y xs ≢ 0 → L.uses s x (C.cycle s y) ≢ 0
+      → L.uses s x (L.joined s (cycles xs)) ≢ 0
   uses-among x y [] some used none = absurd (some refl)
   uses-among x y (z ∷ zs) some used none =
-      let both : L.uses s x (L.joined s (cycles (z ∷ zs))) ≡ L.uses s x (C.cycle s z) + L.uses s x (L.joined s (cycles zs)) =
+      let both : L.uses s x (L.joined s (cycles (z ∷ zs))) ≡ L.uses s x (C.cycle s z) + L.uses s x
+      (L.joined s (cycles zs)) =
       L.uses-append s x (C.cycle s z) (L.joined s (cycles zs)) in
       elim (O.count-cases s y z zs some) [
         | inl e ↦ used (ap (λ (u : A). L.uses s x (C.cycle s u)) e ∙ omega arith)
@@ -195,7 +207,11 @@ module _ {A : Type 0} (s : Pairings A) (n : Numbering s) where
 
     unused_if_first : F.is_least s n x (C.cycle s x) ≡ true → L.uses s x (L.joined s (cycles (firsts_among front))) ≡ 0
     unused_if_first e =
-        elim (cases_eq (L.uses s x (L.joined s (cycles (firsts_among front)))) 0) [ inl none ↦ none | inr some ↦ absurd (clash some) ]
+        elim (cases_eq (L.uses s x (L.joined s (cycles (firsts_among front)))) 0) [
+          | inl none ↦ none
+          | inr some ↦ absurd
+              (clash some)
+        ]
       where
         clash : L.uses s x (L.joined s (cycles (firsts_among front))) ≢ 0 → ⊥
         clash some =
@@ -208,7 +224,8 @@ module _ {A : Type 0} (s : Pairings A) (n : Numbering s) where
             let listed : O.count s y s.sides ≢ 0 =
             λ none. early (omega (arith, ap (O.count s y) is, count_by-append (s.same y) front (x ∷ rest))) in
             let same : x ≡ y =
-            F.first_unique s n x y (record { side = side; least = e }) (record { side = listed; least = passes }) used in
+            F.first_unique s n x y (record { side = side; least = e })
+            (record { side = listed; least = passes }) used in
             omega (arith, before_it x y front rest rises early, ap n.number same)
 
     first_if_unused : L.uses s x (L.joined s (cycles (firsts_among front))) ≡ 0 → F.is_least s n x (C.cycle s x) ≡ true
@@ -230,14 +247,18 @@ module _ {A : Type 0} (s : Pairings A) (n : Numbering s) where
                 let same : L.uses s x (C.cycle s x) ≡ L.uses s x (C.cycle s m.at) =
                 L.uses-cycle s m.at (C.cycle s x) u (L.cycle_simple s x v) m.used x v in
                 let used : L.uses s x (C.cycle s m.at) ≢ 0 = λ gone. L.uses_own_cycle s x (same ∙ gone) in
-                let lower : n.number m.at ≤ n.number x = F.least_number s n m.at x (C.cycle s m.at) m.first.least v used in
+                let lower : n.number m.at ≤ n.number x =
+                F.least_number s n m.at x (C.cycle s m.at) m.first.least v used in
                 let other : n.number m.at ≢ n.number x =
                 λ e. ne (S.rising_injective s n m.at x s.sides n.rising m.first.side side e) in
                 let early : O.count s m.at front ≢ 0 =
-                after_it x m.at front rest rises (subst (λ (zs : List A). O.count s m.at zs ≢ 0) is m.first.side) (omega arith) in
+                after_it x m.at front rest rises (subst (λ (zs : List A). O.count s m.at zs ≢ 0) is m.first.side)
+                (omega arith) in
                 uses-among x m.at (firsts_among front)
-                (λ gone. early (sym (S.count-filter s (λ z. F.is_least s n z (C.cycle s z)) m.at front m.first.least) ∙ gone))
+                (λ gone. early
+                (sym (S.count-filter s (λ z. F.is_least s n z (C.cycle s z)) m.at front m.first.least) ∙ gone))
                 used none
 
-    pub first_unless_used : (F.is_least s n x (C.cycle s x) ≡ true) ↔ (L.uses s x (L.joined s (cycles (firsts_among front))) ≡ 0)
+    pub first_unless_used : (F.is_least s n x (C.cycle s x) ≡ true)
+        ↔ (L.uses s x (L.joined s (cycles (firsts_among front))) ≡ 0)
     first_unless_used = (unused_if_first, first_if_unused)

@@ -1,7 +1,9 @@
 -- The least corner count of each vertex, and what is left of a vector without the curves round vertices.
 --
--- A side is crossed by the strands round its two ends. The corners there belong to the vertices of the two ends, so what is
--- left of the side, when each corner has lost the least count of its vertex, is again a sum of two counts, the same seen
+-- A side is crossed by the strands round its two ends. The corners there belong to the vertices of the two ends, so
+-- what is
+-- left of the side, when each corner has lost the least count of its vertex, is again a sum of two counts, the same
+-- seen
 -- from both triangles. A vector whose sides are such sums is a multicurve.
 use Rattle.std.proofs.Common.{ℕ, zero, suc, ℤ, pos, negsuc, List, [], ◌∷◌, ◌≡◌, ◌≢◌, ◌≤◌, ◌<◌, ◌+◌, ◌-◌, ◌*◌, ◌/◌, ◌%◌, ◌⊎◌, min, inl, inr, refl, sym, ◌∙◌, ap, subst, arith, length, map, get_or}
 use Rattle.std.specs.List.{All, range_with_len}
@@ -33,7 +35,8 @@ three_sums p q r = ap (λ (n : ℕ). n % 2) doubled ∙ omega arith
     doubled : (p + r) + (q + p) + (r + q) ≡ 2 * (p + q + r)
     doubled = omega arith
 
-module _ (triples : List (List ℤ)) (h : IsTriangulation triples) (w : List ℕ) (count : ℤ → ℕ) (long : length w ≡ edge_count triples)
+module _ (triples : List (List ℤ)) (h : IsTriangulation triples) (w : List ℕ) (count : ℤ → ℕ)
+    (long : length w ≡ edge_count triples)
     (ends : (x : ℤ) → IsLabel triples x → weight w x ≡ count x + count (previous triples x)) where
   -- the three counts at a triangle
   record Counts (a b c : ℤ) : Type 0 where
@@ -46,7 +49,8 @@ module _ (triples : List (List ℤ)) (h : IsTriangulation triples) (w : List ℕ
       let triple : List ℤ = a ∷ (b ∷ (c ∷ [])) in
       let stands : IsTriangleOf triples triple =
       (k, triple, below, get_or_default triples k triple [] below ∙ is, Rotation-refl triple) in
-      let at : IsLabel triples a × (next triples a ≡ b) × (next triples b ≡ c) = triple_laws.sides triples a b c h stands in
+      let at : IsLabel triples a × (next triples a ≡ b) × (next triples b ≡ c) =
+      triple_laws.sides triples a b c h stands in
       let laws : TriangleLaws triples = triangle_laws triples h in
       let l : IsLabel triples b = subst (IsLabel triples) at.1 (laws.label a at.0) in
       let m : IsLabel triples c = subst (IsLabel triples) at.2 (laws.label b l) in
@@ -99,7 +103,8 @@ module _ (triples : List (List ℤ)) (h : IsTriangulation triples) (w : List ℕ
       ap (λ (n : ℕ). n / 2) twice ∙ omega arith
 
 -- a sum of two multicurves
-pub sum_counts : (triples : List (List ℤ)) → IsTriangulation triples → (u v w : List ℕ) → IsMulticurve triples u → IsMulticurve triples v
+pub sum_counts : (triples : List (List ℤ)) → IsTriangulation triples → (u v w : List ℕ) → IsMulticurve triples u
+    → IsMulticurve triples v
     → ((e : ℕ) → e < edge_count triples → slice_index w e ≡ slice_index u e + slice_index v e)
     → (x : ℤ) → IsLabel triples x
     → weight w x
@@ -145,7 +150,8 @@ pub tail_corner : (triples : List (List ℤ)) → TriangleLaws triples → (x : 
 tail_corner triples laws x l = record { steps = 1; reached = ap inverse (laws.round x l) }
 
 module _ (triples : List (List ℤ)) (laws : TriangleLaws triples) (w : List ℕ) where
-  pub least_count_least : (x y : ℤ) → IsLabel triples x → IsSameVertex triples x y → least_count triples w x ≤ corner_count triples w y
+  pub least_count_least : (x y : ℤ) → IsLabel triples x → IsSameVertex triples x y
+      → least_count triples w x ≤ corner_count triples w y
   least_count_least x y l on = go (turn triples laws x l)
     where
       go : Turn triples x → least_count triples w x ≤ corner_count triples w y
@@ -155,13 +161,15 @@ module _ (triples : List (List ℤ)) (laws : TriangleLaws triples) (w : List ℕ
           (within_least triples w (2 * edge_count triples) m x (omega (arith, t.short)))
 
   -- not greater than that of any corner at the vertex
-  no_greater : (x y : ℤ) → IsLabel triples x → IsSameVertex triples x y → least_count triples w x ≤ least_count triples w y
+  no_greater : (x y : ℤ) → IsLabel triples x → IsSameVertex triples x y
+      → least_count triples w x ≤ least_count triples w y
   no_greater x y l on =
       let (z, far, e) = least_count_there triples w y in
       subst (λ (n : ℕ). least_count triples w x ≤ n) e
       (least_count_least x z l (SameVertex-trans triples x y z on far))
 
-  pub least_count_same : (x y : ℤ) → IsLabel triples x → IsSameVertex triples x y → least_count triples w x ≡ least_count triples w y
+  pub least_count_same : (x y : ℤ) → IsLabel triples x → IsSameVertex triples x y
+      → least_count triples w x ≡ least_count triples w y
   least_count_same x y l on =
       omega (
         arith,
@@ -169,9 +177,11 @@ module _ (triples : List (List ℤ)) (laws : TriangleLaws triples) (w : List ℕ
         no_greater y x (SameVertex_label triples laws x y l on) (SameVertex-sym triples laws x y l on),
       )
 
-  pub least_count_tail : (x : ℤ) → IsLabel triples x → least_count triples w (previous triples x) ≡ least_count triples w (inverse x)
+  pub least_count_tail : (x : ℤ) → IsLabel triples x
+      → least_count triples w (previous triples x) ≡ least_count triples w (inverse x)
   least_count_tail x l =
-      least_count_same (previous triples x) (inverse x) (laws.label (next triples x) (laws.label x l)) (tail_corner triples laws x l)
+      least_count_same (previous triples x) (inverse x) (laws.label (next triples x) (laws.label x l))
+      (tail_corner triples laws x l)
 
 -- ---- without the curves round vertices
 
@@ -191,9 +201,11 @@ module _ (triples : List (List ℤ)) (h : IsTriangulation triples) (w : List ℕ
 
   entry_left : (x : ℤ) → IsLabel triples x → weight (stripped triples w) x ≡ weight w x - least x - least (inverse x)
   entry_left (pos e) l =
-      get_or-map-range_with_len (λ i. slice_index w i - least (pos i) - least (negsuc i)) 0 (edge_count triples) e e 0 l (omega arith)
+      get_or-map-range_with_len (λ i. slice_index w i - least (pos i) - least (negsuc i)) 0 (edge_count triples) e e 0 l
+      (omega arith)
   entry_left (negsuc e) l =
-      get_or-map-range_with_len (λ i. slice_index w i - least (pos i) - least (negsuc i)) 0 (edge_count triples) e e 0 l (omega arith)
+      get_or-map-range_with_len (λ i. slice_index w i - least (pos i) - least (negsuc i)) 0 (edge_count triples) e e 0 l
+      (omega arith)
       ∙ omega arith
 
   sides_left : (x : ℤ) → IsLabel triples x → weight (stripped triples w) x ≡ left x + left (previous triples x)
@@ -213,7 +225,8 @@ module _ (triples : List (List ℤ)) (h : IsTriangulation triples) (w : List ℕ
   pub stripped_multicurve : IsMulticurve triples (stripped triples w)
   stripped_multicurve = multicurve_of_counts triples h (stripped triples w) left long_left sides_left
 
-  pub corners_left : (x : ℤ) → IsLabel triples x → corner_count triples (stripped triples w) x + least x ≡ corner_count triples w x
+  pub corners_left : (x : ℤ) → IsLabel triples x
+      → corner_count triples (stripped triples w) x + least x ≡ corner_count triples w x
   corners_left x l =
       omega (arith, corners_of_counts triples h (stripped triples w) left long_left sides_left x l, least-le x l)
 

@@ -41,4 +41,5 @@ module _ {A : Type 0} (number : A → ℕ) where
       later : IsStrictlyIncreasing (map number (y ∷ xs))
       later k b =
           let more : suc k + 1 ≡ suc (k + 1) = omega arith in
-          subst (λ (j : ℕ). slice_index (map number (y ∷ xs)) k < slice_index (map number (x ∷ (y ∷ xs))) j) more (h (suc k) (omega arith))
+          subst (λ (j : ℕ). slice_index (map number (y ∷ xs)) k < slice_index (map number (x ∷ (y ∷ xs))) j) more
+          (h (suc k) (omega arith))

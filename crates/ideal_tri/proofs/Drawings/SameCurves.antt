@@ -22,7 +22,13 @@ pub SameCurves-append : (us vs more others : List (List ℤ)) → IsSameCurves u
     → IsSameCurves (us ++ more) (vs ++ others)
 SameCurves-append us vs more others h k = record {
   counts = λ c.
-      omega (arith, count_by-append (is_same_curve c) us more, count_by-append (is_same_curve c) vs others, h.counts c, k.counts c);
+      omega (
+        arith,
+        count_by-append (is_same_curve c) us more,
+        count_by-append (is_same_curve c) vs others,
+        h.counts c,
+        k.counts c,
+      );
 }
 
 -- what does not tell two words of one curve apart has the same sum

@@ -34,18 +34,22 @@ module _ {A : Type 0} (s : Pairings A) where
   uses-steps x runs v c =
       L.uses-joined s (O.step s x) runs
       ∙ sum_by-agree (L.uses s (O.step s x)) (L.uses s x) runs
-      (All-weaker (R.Closed s) (λ run. L.uses s (O.step s x) run ≡ L.uses s x run) (λ run d. uses-step x run v d) runs c)
+      (All-weaker (R.Closed s) (λ run. L.uses s (O.step s x) run ≡ L.uses s x run)
+      (λ run d. uses-step x run v d) runs c)
       ∙ sym (L.uses-joined s x runs)
 
   none_equal : (x : A) (run : List A) → All (λ y. y ≢ x) run → O.count s x run ≡ 0
   none_equal x [] h = refl
   none_equal x (y ∷ run) h =
-      O.count-other s x y run (λ e. All-head (λ z. z ≢ x) y run h (sym e)) ∙ none_equal x run (All-tail (λ z. z ≢ x) y run h)
+      O.count-other s x y run (λ e. All-head (λ z. z ≢ x) y run h (sym e)) ∙ none_equal x run
+      (All-tail (λ z. z ≢ x) y run h)
 
-  first_return : (x : A) (run : List A) → s.Valid x → R.Runs s x (x ∷ run) x → All (λ y. y ≢ x) run → x ∷ run ≡ C.cycle s x
+  first_return : (x : A) (run : List A) → s.Valid x → R.Runs s x (x ∷ run) x → All (λ y. y ≢ x) run
+      → x ∷ run ≡ C.cycle s x
   first_return x run v h others =
       ap (λ (zs : List A). x ∷ zs)
-      (R.runs_unique s (O.step s x) x run (C.rest_of s x) h.1 (C.cycle_runs s x v) (none_equal x run others) (C.rest_count s x))
+      (R.runs_unique s (O.step s x) x run (C.rest_of s x) h.1 (C.cycle_runs s x v) (none_equal x run others)
+      (C.rest_count s x))
 
   not_yet : (x y : A) (run : List A) → s.Valid x → R.Runs s x (x ∷ run) y → All (λ z. z ≢ x) run → y ≢ x
       → length (x ∷ run) < length (C.cycle s x)
@@ -67,7 +71,8 @@ module _ (triples : List (List ℤ)) (h : IsTriangulation triples) where
     stays = λ w q m v. O.step_valid (s w m) q v;
     used = λ w runs q m d v. (to_family triples w (at w m) runs d).once q v;
     stepped = λ w runs q m c v.
-        uses-steps (s w m) q runs v (All-weaker (IsClosedRun triples w) (R.Closed (s w m)) (to_closed triples w (at w m)) runs c);
+        uses-steps (s w m) q runs v
+        (All-weaker (IsClosedRun triples w) (R.Closed (s w m)) (to_closed triples w (at w m)) runs c);
     closed = λ w q m v. from_closed triples w (at w m) (curve_from triples w q) (C.cycle_closed (s w m) q v);
     once = λ w p q m u v. (L.cycle_simple (s w m) q v).once p u;
     short = λ w q m v. omega (arith, L.cycle_short (s w m) q v, length-strands_from 0 w);

@@ -9,10 +9,14 @@ use Rattle.ideal_tri.proofs.laws.corner_laws.Goals as goal
 
 pub returns : goal.returns
 returns c = λ triples h. record {
-  from_counts = λ w count long ends. (multicurve_of_counts triples h w count long ends, corners_of_counts triples h w count long ends);
+  from_counts =
+      λ w count long ends.
+      (multicurve_of_counts triples h w count long ends, corners_of_counts triples h w count long ends);
   sum = λ u v w m k long added. (
-    multicurve_of_counts triples h w (λ x. corner_count triples u x + corner_count triples v x) long (sum_counts triples h u v w m k added),
-    corners_of_counts triples h w (λ x. corner_count triples u x + corner_count triples v x) long (sum_counts triples h u v w m k added),
+    multicurve_of_counts triples h w (λ x. corner_count triples u x + corner_count triples v x) long
+        (sum_counts triples h u v w m k added),
+    corners_of_counts triples h w (λ x. corner_count triples u x + corner_count triples v x) long
+        (sum_counts triples h u v w m k added),
   );
   tail = tail_corner triples (triangle_laws triples h);
   there = λ w x l. least_count_there triples w x;
