@@ -5,7 +5,7 @@ use Rattle.std.specs.List.Sorted.{IsStrictlyIncreasing}
 use Rattle.ideal_tri.specs.Labels.{edge_of}
 use Rattle.ideal_tri.specs.Strands.{State, state_at, same_state, strand_step}
 
--- ---- numbers of strands: from 0, edge after edge, and from the tail of the label that is not negative
+-- ---- numbers of strands: from 0, edge after edge, from the tail of the label that is not negative
 
 -- the place on the edge, seen from that label
 abbrev pub place_on_edge : List ℕ → ℤ → ℕ → ℕ

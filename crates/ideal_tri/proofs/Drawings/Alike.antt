@@ -2,13 +2,11 @@
 -- direction.
 --
 -- A run of such a family is a rotation of the cycle of each thing that it uses, forwards or backwards. So of the runs
--- of
--- another family exactly one is alike to it: the one that uses its first element. Sums over both families that don't
--- tell
--- alike runs apart are therefore equal; no permutation between the two is built.
-use Rattle.std.proofs.Common.{ℕ, zero, suc, Bool, true, false, cond, ltb, List, [], ◌∷◌, ◌++◌, ◌≡◌, ◌≢◌, ◌≤◌, ◌<◌, ◌+◌, ◌-◌, ◌*◌, ◌⊎◌, inl, inr, refl, sym, ◌∙◌, ap, subst, append_assoc, arith, length, length-append, map}
+-- of another family exactly one is alike to it: the one that uses its first element. Sums over both families that don't
+-- tell alike runs apart are therefore equal; no permutation between the two is built.
+use Rattle.std.proofs.Common.{ℕ, Bool, true, false, cond, ltb, List, [], ◌∷◌, ◌++◌, ◌≡◌, ◌≢◌, ◌≤◌, ◌+◌, ◌⊎◌, inl, inr, refl, sym, ◌∙◌, ap, arith, length, length-append}
 use Rattle.std.specs.List.{All, count_by, sum_by, flat_map}
-use Rattle.std.proofs.lemmas.Bool.{cases_Bool, cases_lt, cases_eq, lt-ltb, le-ltb}
+use Rattle.std.proofs.lemmas.Bool.{cases_eq, lt-ltb}
 use Rattle.std.proofs.lemmas.List.Elements.{All-nil, All-cons, All-head, All-tail}
 use Rattle.std.proofs.lemmas.List.Sums.{sum_by-cons}
 use Rattle.ideal_tri.specs.Words.{IsRotation}

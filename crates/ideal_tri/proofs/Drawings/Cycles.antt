@@ -2,20 +2,16 @@
 -- things once at most.
 --
 -- It closes, since the orbit is longer than the number of things. It never passes a thing and the opposite one: if n
--- steps
--- led from x to its opposite, then n - 2 steps would lead from the step of x to the opposite of that, and so on down to
--- none or one, where it can't be. So a closed run that uses each pair once at most is a rotation of the cycle of any
--- thing
--- that it uses, forwards or backwards.
-use Rattle.std.proofs.Common.{ℕ, zero, suc, Bool, true, false, cond, List, [], ◌∷◌, ◌++◌, ◌≡◌, ◌≢◌, ◌≤◌, ◌<◌, ◌+◌, ◌-◌, ◌*◌, ◌⊎◌, inl, inr, refl, sym, ◌∙◌, ap, subst, append_assoc, arith, length, length-append, map}
-use Rattle.std.specs.List.{All, count_by, before_first}
+-- steps led from x to its opposite, then n - 2 steps would lead from the step of x to the opposite of that, and so on
+-- down to none or one, where it can't be. So a closed run that uses each pair once at most is a rotation of the cycle
+-- of any thing that it uses, forwards or backwards.
+use Rattle.std.proofs.Common.{ℕ, zero, suc, Bool, true, false, cond, List, [], ◌∷◌, ◌++◌, ◌≡◌, ◌≢◌, ◌≤◌, ◌+◌, ◌-◌, ◌*◌, ◌⊎◌, inl, inr, refl, sym, ◌∙◌, ap, subst, arith, length, length-append}
+use Rattle.std.specs.List.{before_first}
 use Rattle.std.proofs.lemmas.Bool.{cases_Bool, cases_lt}
-use Rattle.std.proofs.lemmas.List.{length-map, append-nil}
-use Rattle.std.proofs.lemmas.List.Elements.{All-nil, All-cons, All-head, All-tail, All-append, All-map}
 use Rattle.ideal_tri.specs.Words.{IsRotation}
 use Rattle.ideal_tri.specs.Drawings.{orbit}
 use Rattle.ideal_tri.proofs.Rotations.{Rotation-count_by}
-use Rattle.ideal_tri.proofs.Drawings.Tallies.{All-back, All-front, Split, split, count_by-cons, count_by-append, count_by-map, count_by-split, count_by-no, none_if}
+use Rattle.ideal_tri.proofs.Drawings.Tallies.{Split, split, count_by-cons, count_by-append, count_by-no, none_if}
 use Rattle.ideal_tri.proofs.Drawings.Orbits as O
 use Rattle.ideal_tri.proofs.Drawings.Orbits.{Pairings}
 use Rattle.ideal_tri.proofs.Drawings.Runs as R

@@ -1,13 +1,10 @@
 -- Drawings exist, and are unique.
 --
 -- What is shown of families of closed runs says that each multicurve has a drawing, that one alone begins each curve at
--- its
--- least strand in rising order, and, since the way back of a run has the inverse word, that the words of any two
--- drawings
--- are the same curves.
-use Rattle.std.proofs.Common.{ℕ, ℤ, pos, negsuc, Bool, true, cond, leb, List, [], ◌∷◌, ◌++◌, ◌≡◌, ◌≢◌, ◌≤◌, ◌<◌, ◌+◌, ◌-◌, ◌⊎◌, ◌↔◌, inl, inr, refl, sym, ◌∙◌, ap, subst, arith, length, map, get_or}
-use Rattle.std.specs.List.{All, AllPass, count_by, sum_by, flat_map}
-use Rattle.std.specs.Prelude.{slice_index}
+-- its least strand in rising order, and, since the way back of a run has the inverse word, that the words of any two
+-- drawings are the same curves.
+use Rattle.std.proofs.Common.{ℕ, ℤ, pos, Bool, true, cond, leb, List, [], ◌∷◌, ◌++◌, ◌≡◌, ◌≢◌, ◌≤◌, ◌<◌, ◌↔◌, inl, inr, refl, sym, ◌∙◌, ap, subst, arith, length, map}
+use Rattle.std.specs.List.{All, AllPass}
 use Rattle.std.specs.List.Sorted.{IsStrictlyIncreasing}
 use Rattle.std.proofs.lemmas.Bool.{leb-true, le-leb}
 use Rattle.std.proofs.lemmas.List.{map-append, get_or_default}
@@ -16,14 +13,12 @@ use Rattle.std.proofs.lemmas.List.Sums.{AllPass-from_list_all, list_all-from_All
 use Rattle.ideal_tri.specs.Labels.{inverse, edge_of}
 use Rattle.ideal_tri.specs.Words.{inverse_word, IsRotation}
 use Rattle.ideal_tri.specs.Curves.{IsSameCurve, IsSameCurves, is_same_curve, crossings}
-use Rattle.ideal_tri.specs.Triangulations.{edge_count}
-use Rattle.ideal_tri.specs.Vectors.{weight}
 use Rattle.ideal_tri.specs.Strands.{State, state_at, IsStrand, IsClosedRun, IsDrawing, opposite, word_of, words_of}
-use Rattle.ideal_tri.specs.Drawings.{strand_number, strands, curve_from, is_least_of, least_among, draw, BeginsAtLeast, first_number, IsRising}
+use Rattle.ideal_tri.specs.Drawings.{strand_number, strands, curve_from, least_among, draw, BeginsAtLeast, first_number, IsRising}
 use Rattle.ideal_tri.proofs.Rotations.{Rotation-map, is_same_curve-respects}
 use Rattle.ideal_tri.proofs.Crossings.{drawing_counts}
 use Rattle.ideal_tri.proofs.Drawings.Tallies.{count_by-map}
-use Rattle.ideal_tri.proofs.Drawings.Rising.{Rising, rising, increasing}
+use Rattle.ideal_tri.proofs.Drawings.Rising.{rising, increasing}
 use Rattle.ideal_tri.proofs.Drawings.Through.{state_same}
 use Rattle.ideal_tri.proofs.Drawings.Numbers.{IsSide, are_sides, in_strands}
 use Rattle.ideal_tri.proofs.Drawings.Orbits as O
@@ -34,7 +29,7 @@ use Rattle.ideal_tri.proofs.Drawings.Alike as L
 use Rattle.ideal_tri.proofs.Drawings.Firsts as F
 use Rattle.ideal_tri.proofs.Drawings.FirstCycles as FC
 use Rattle.ideal_tri.proofs.Drawings.Sides.{Numbering}
-use Rattle.ideal_tri.proofs.Drawings.States.{Setting, pairings, numbering, to_closed, to_family, from_family}
+use Rattle.ideal_tri.proofs.Drawings.States.{Setting, pairings, numbering, to_family, from_family}
 
 module _ (triples : List (List ℤ)) (w : List ℕ) (given : Setting triples w) where
   abbrev s : Pairings State

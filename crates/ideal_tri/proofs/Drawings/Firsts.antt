@@ -1,9 +1,8 @@
 -- First sides: those whose cycles have no thing of a lesser number.
 --
 -- Of each pair of opposite things one is a side, and the sides rise by their numbers. The cycle of any thing uses
--- exactly one
--- first side: the least thing in it, or its opposite.
-use Rattle.std.proofs.Common.{ℕ, Bool, true, leb, List, [], ◌∷◌, ◌≡◌, ◌≢◌, ◌≤◌, ◌<◌, ◌+◌, ◌⊎◌, inl, inr, refl, sym, ◌∙◌, ap, arith}
+-- exactly one first side: the least thing in it, or its opposite.
+use Rattle.std.proofs.Common.{Bool, true, leb, List, [], ◌∷◌, ◌≡◌, ◌≢◌, ◌≤◌, inl, inr, refl, ◌∙◌, arith}
 use Rattle.std.specs.List.{All, AllPass, list_all}
 use Rattle.std.proofs.lemmas.Bool.{cases_lt, cases_eq, leb-true, le-leb}
 use Rattle.std.proofs.lemmas.List.Elements.{All-nil, All-cons, All-weaker}

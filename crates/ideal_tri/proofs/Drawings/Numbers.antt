@@ -1,17 +1,20 @@
--- The strands of a vector in the order of their numbers: all of them stand in the list, each once, and it rises.
-use Rattle.std.proofs.Common.{ℕ, zero, suc, ℤ, pos, negsuc, Bool, true, false, cond, List, [], ◌∷◌, ◌++◌, ◌≡◌, ◌≢◌, ◌≤◌, ◌<◌, ◌+◌, ◌-◌, ◌*◌, ◌⊎◌, inl, inr, refl, sym, ◌∙◌, ap, subst, append_assoc, arith, length, length-append, map, take, get_or}
+-- The strands of a vector in the order of their numbers: all of them stand in the list, and it rises.
+--
+-- Where the vector is u ++ v and u has e entries, the strands of the edges from e on have the numbers from the sum of u
+-- on, edge by edge: those of the edge e, with n strands, are the n numbers that follow, and those of the later edges
+-- are not less than the sum of u and n.
+use Rattle.std.proofs.Common.{ℕ, zero, suc, pos, List, [], ◌∷◌, ◌++◌, ◌≡◌, ◌≢◌, ◌≤◌, ◌<◌, ◌+◌, inl, inr, refl, sym, ◌∙◌, ap, subst, append_assoc, arith, length, length-append, map, take, get_or}
 use Rattle.std.specs.List.{All, sum, count_by, range_with_len}
 use Rattle.std.specs.Prelude.{slice_index}
-use Rattle.std.proofs.lemmas.Bool.{cases_lt, cases_eq}
+use Rattle.std.proofs.lemmas.Bool.{cases_eq}
 use Rattle.std.proofs.lemmas.List.{take_at, get_or_at}
 use Rattle.std.proofs.lemmas.List.Elements.{All-nil, All-cons, All-head, All-tail, All-append, All-map, All-weaker}
 use Rattle.std.proofs.lemmas.List.Sums.{sum_by_push, sum_by-cons}
 use Rattle.std.proofs.lemmas.List.FromFn.{length-map-range_with_len}
 use Rattle.ideal_tri.specs.Labels.{edge_of}
-use Rattle.ideal_tri.specs.Triangulations.{edge_count}
 use Rattle.ideal_tri.specs.Vectors.{weight}
-use Rattle.ideal_tri.specs.Strands.{State, state_at, IsStrand, same_state, opposite}
-use Rattle.ideal_tri.specs.Drawings.{place_on_edge, strand_number, strands_from, strands}
+use Rattle.ideal_tri.specs.Strands.{State, state_at, same_state}
+use Rattle.ideal_tri.specs.Drawings.{strand_number, strands_from, strands}
 use Rattle.ideal_tri.proofs.Drawings.Tallies.{count_by-cons, count_by-append, count_by-yes}
 use Rattle.ideal_tri.proofs.Drawings.Rising.{Rising}
 use Rattle.ideal_tri.proofs.Drawings.Through.{same_state_decides}

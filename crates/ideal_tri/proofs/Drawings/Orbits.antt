@@ -1,18 +1,16 @@
 -- Two pairings of finitely many things, and the walks that use them in turn.
 --
 -- Each thing has an opposite one and one across; going back is the same map again, and nothing is its own partner. A
--- step
--- goes to the opposite thing and then across. Steps are injective, so the values from q on are different until q comes
--- back,
--- and there are only so many things: q does come back. What stands before it is the cycle of q.
-use Rattle.std.proofs.Common.{ℕ, zero, suc, Bool, true, false, cond, List, [], ◌∷◌, ◌++◌, ◌≡◌, ◌≢◌, ◌≤◌, ◌+◌, ◌*◌, ◌⊎◌, inl, inr, refl, sym, ◌∙◌, ap, subst, arith, length, length-append, map}
+-- step goes to the opposite thing and then across. Steps are injective, so the values from q on are different until q
+-- comes back, and there are only so many things: q does come back. What stands before it is the cycle of q.
+use Rattle.std.proofs.Common.{ℕ, zero, suc, Bool, true, false, cond, List, [], ◌∷◌, ◌++◌, ◌≡◌, ◌≢◌, ◌≤◌, ◌+◌, ◌⊎◌, inl, inr, refl, sym, ◌∙◌, ap, subst, arith, length, length-append, map}
 use Rattle.std.specs.Bool.{Decides}
-use Rattle.std.specs.List.{All, count_by, before_first}
-use Rattle.std.proofs.lemmas.Bool.{cases_Bool, cases_eq}
+use Rattle.std.specs.List.{All, count_by}
+use Rattle.std.proofs.lemmas.Bool.{cases_Bool}
 use Rattle.std.proofs.lemmas.Bool.Decides.{not_from_Decides}
 use Rattle.std.proofs.lemmas.List.Elements.{All-nil, All-cons, All-head, All-tail}
 use Rattle.ideal_tri.specs.Drawings.{orbit}
-use Rattle.ideal_tri.proofs.Drawings.Tallies.{All-back, All-front, Split, split, count_by-cons, count_by-yes, count_by-no, count_by-append, count_by-split}
+use Rattle.ideal_tri.proofs.Drawings.Tallies.{Split, split, count_by-cons, count_by-yes, count_by-no, count_by-split}
 
 pub record Pairings (A : Type 0) : Type 1 where
   pub same : A → A → Bool

@@ -1,11 +1,10 @@
 -- A drawing has a word, and none that runs round a vertex, exactly where something is crossed and each vertex has a
--- corner
--- without strands.
+-- corner without strands.
 --
 -- Where all corners of a vertex have strands, the innermost of them, at place 0, keeps that place as it turns from
--- corner to
--- corner. So its curve runs round the vertex, and the drawing has it, or its way back, which turns the other way.
-use Rattle.std.proofs.Common.{ℕ, zero, suc, ℤ, List, [], ◌∷◌, ◌++◌, ◌≡◌, ◌≢◌, ◌≤◌, ◌<◌, ◌+◌, ◌⊎◌, ◌↔◌, inl, inr, refl, sym, ◌∙◌, ap, subst, arith}
+-- corner to corner. So its curve runs round the vertex, and the drawing has it, or its way back, which turns the other
+-- way.
+use Rattle.std.proofs.Common.{ℕ, zero, suc, ℤ, List, [], ◌∷◌, ◌≡◌, ◌≢◌, ◌<◌, ◌⊎◌, ◌↔◌, inl, inr, refl, sym, ◌∙◌, ap, subst, arith}
 use Rattle.std.specs.List.{All}
 use Rattle.std.proofs.lemmas.Bool.{cases_eq}
 use Rattle.std.proofs.lemmas.List.Elements.{All-nil, All-cons, All-head, All-tail, All-map, All-weaker}
@@ -14,7 +13,7 @@ use Rattle.ideal_tri.specs.Triangulations.{IsLabel, next, previous}
 use Rattle.ideal_tri.specs.Vectors.{corner_count}
 use Rattle.ideal_tri.specs.Strands.{State, state_at, IsStrand, opposite, strand_step, IsDrawing, word_of, words_of}
 use Rattle.ideal_tri.specs.Peripheral.{TurnsOn, TurnsBack, IsPeripheral}
-use Rattle.ideal_tri.specs.Vertices.{corner_step, corner_after, IsSameVertex}
+use Rattle.ideal_tri.specs.Vertices.{corner_step, corner_after}
 use Rattle.ideal_tri.specs.PeripheralParts.{IsNonperipheral, HasFreeCorners, least_count}
 use Rattle.ideal_tri.proofs.Labels.{inverse-inverse, inverse_label}
 use Rattle.ideal_tri.proofs.Rotations.{Rotation-sym, Rotation-keeps}

@@ -1,13 +1,16 @@
--- Runs: things in a row, each the step of the one before. They join, turn back, and from each thing one run comes back.
-use Rattle.std.proofs.Common.{ℕ, zero, suc, Bool, true, false, cond, not, List, [], ◌∷◌, ◌++◌, ◌≡◌, ◌≢◌, ◌≤◌, ◌<◌, ◌+◌, ◌*◌, ◌⊎◌, inl, inr, refl, sym, ◌∙◌, ap, subst, append_assoc, arith, length, length-append, map, take, one-add}
-use Rattle.std.specs.List.{All, count_by, before_first, prefix_len}
-use Rattle.std.proofs.lemmas.Bool.{cases_Bool, cases_eq}
-use Rattle.std.proofs.lemmas.List.{length-map, append-nil}
+-- Runs: things in a row, each the step of the one before.
+--
+-- Runs join, and two runs from one thing agree as long as neither ends. The way back of a run lists the opposite things
+-- in reverse order; it is a run since the step from the opposite of a step leads to the opposite. A closed run ends
+-- where it begins: it stays closed when it begins at another of its places, and its way back is closed. It passes a
+-- thing as often as its step, since with its first thing at the end it is the list of its steps.
+use Rattle.std.proofs.Common.{Bool, true, false, cond, not, List, [], ◌∷◌, ◌++◌, ◌≡◌, ◌≢◌, ◌<◌, ◌+◌, ◌⊎◌, inl, inr, refl, sym, ◌∙◌, ap, subst, arith, length, length-append, map, take, one-add}
+use Rattle.std.specs.List.{All, before_first, prefix_len}
 use Rattle.std.proofs.lemmas.List.Elements.{All-nil, All-cons, All-head, All-tail, All-append}
 use Rattle.ideal_tri.specs.Words.{IsRotation}
 use Rattle.ideal_tri.specs.Drawings.{orbit}
 use Rattle.ideal_tri.proofs.Rotations.{Rotation-steps}
-use Rattle.ideal_tri.proofs.Drawings.Tallies.{All-back, All-front, count_by-cons, count_by-append}
+use Rattle.ideal_tri.proofs.Drawings.Tallies.{count_by-cons, count_by-append}
 use Rattle.ideal_tri.proofs.Drawings.Orbits as O
 use Rattle.ideal_tri.proofs.Drawings.Orbits.{Pairings}
 

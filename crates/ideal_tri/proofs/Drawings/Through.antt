@@ -1,11 +1,17 @@
--- Strands through a triangle and over an edge: both ways back lead back, and neither leaves a strand where it is.
-use Rattle.std.proofs.Common.{ℕ, ℤ, pos, negsuc, Bool, true, false, cond, leb, eqb, List, ◌≡◌, ◌≢◌, ◌≤◌, ◌<◌, ◌+◌, ◌-◌, ◌⊎◌, inl, inr, refl, sym, ◌∙◌, ap, subst, arith}
+-- Strands over an edge and through a triangle: each way leads back when taken again, and leaves no strand where it is.
+--
+-- A side with p strands round its head and r round its tail has p + r of them. Through the triangle those round the
+-- tail go to the side before, where they are the ones round its head, and the others to the side after, where they are
+-- the ones round its tail; places are counted from the other end there. So a step, over an edge and through the next
+-- triangle, keeps the place of a strand round the tail of its label, and any other strand passes the corner behind
+-- that.
+use Rattle.std.proofs.Common.{ℕ, ℤ, Bool, cond, eqb, List, ◌≡◌, ◌≢◌, ◌≤◌, ◌<◌, ◌+◌, ◌-◌, inl, inr, sym, ◌∙◌, ap, subst, arith}
 use Rattle.std.specs.Bool.{Decides}
 use Rattle.std.specs.Ordering.{int_eq}
 use Rattle.std.specs.Prelude.{slice_index}
 use Rattle.std.proofs.lemmas.Bool.{cases_lt, le-leb, lt-leb}
 use Rattle.std.proofs.lemmas.Bool.Decides.{Decides-int_eq, Decides-eqb, Decides-and, Decides-like}
-use Rattle.ideal_tri.specs.Labels.{inverse, edge_of}
+use Rattle.ideal_tri.specs.Labels.{inverse}
 use Rattle.ideal_tri.specs.Triangulations.{IsLabel, next, previous}
 use Rattle.ideal_tri.specs.Vectors.{weight, corner_count}
 use Rattle.ideal_tri.specs.Strands.{State, state_at, IsStrand, same_state, opposite, cross, strand_step}

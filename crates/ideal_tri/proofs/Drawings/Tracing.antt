@@ -1,9 +1,9 @@
 -- The curve from a strand on, as it is found step by step, and the least strands, as they are met in order.
-use Rattle.std.proofs.Common.{ℕ, ℤ, Bool, true, List, [], ◌∷◌, ◌++◌, ◌≡◌, ◌≢◌, ◌≤◌, ◌<◌, ◌+◌, ◌↔◌, refl, sym, ◌∙◌, ap, subst, arith, length}
-use Rattle.std.specs.List.{All, sum, sum_by, flat_map}
+use Rattle.std.proofs.Common.{ℕ, ℤ, List, [], ◌∷◌, ◌≡◌, ◌≢◌, ◌<◌, refl, sym, ◌∙◌, ap, arith, length}
+use Rattle.std.specs.List.{All}
 use Rattle.std.proofs.lemmas.List.Elements.{All-head, All-tail, All-weaker}
-use Rattle.ideal_tri.specs.Strands.{State, IsStrand, strand_step, Runs, IsClosedRun, uses, IsDrawing}
-use Rattle.ideal_tri.specs.Drawings.{strands, curve_from, is_least_of, curves_among}
+use Rattle.ideal_tri.specs.Strands.{State, IsClosedRun}
+use Rattle.ideal_tri.specs.Drawings.{curve_from}
 use Rattle.ideal_tri.specs.StrandLaws.{StrandLaws}
 use Rattle.ideal_tri.specs.Triangulations.{IsTriangulation}
 use Rattle.ideal_tri.specs.Vectors.{IsMulticurve}
@@ -14,7 +14,7 @@ use Rattle.ideal_tri.proofs.Drawings.Orbits.{Pairings}
 use Rattle.ideal_tri.proofs.Drawings.Runs as R
 use Rattle.ideal_tri.proofs.Drawings.Cycles as C
 use Rattle.ideal_tri.proofs.Drawings.Alike as L
-use Rattle.ideal_tri.proofs.Drawings.FirstCycles as FC
+use Rattle.ideal_tri.proofs.Drawings.InOrder as I
 use Rattle.ideal_tri.proofs.Drawings.States.{Setting, setting, pairings, numbering, to_runs, to_closed, from_closed, to_family}
 
 module _ {A : Type 0} (s : Pairings A) where
@@ -81,5 +81,5 @@ module _ (triples : List (List ℤ)) (h : IsTriangulation triples) where
     shorter = λ w q r run m v runs others ne.
         not_yet (s w m) q r run v (to_runs triples w (at w m) q r (q ∷ run) runs) others ne;
     fresh = λ w q before after m is.
-        FC.first_unless_used (s w m) (numbering triples w (at w m)) q before after is;
+        I.first_unless_used (s w m) (numbering triples w (at w m)) q before after is;
   }

@@ -1,11 +1,9 @@
 -- Curves that turn the same way all round have strands at all corners of a vertex.
 --
 -- A curve turns on where each of its states lies within the corner at the tail of its label. From one such state to the
--- next
--- the corner takes a step round its vertex, so the curve goes through all corners there, which therefore have strands.
--- Where
--- it turns back it goes through them the other way round.
-use Rattle.std.proofs.Common.{ℕ, zero, suc, ℤ, List, [], ◌∷◌, ◌++◌, ◌≡◌, ◌≢◌, ◌≤◌, ◌<◌, ◌+◌, ◌⊎◌, inl, inr, refl, sym, ◌∙◌, ap, subst, arith}
+-- next the corner takes a step round its vertex, so the curve goes through all corners there, which therefore have
+-- strands. Where it turns back it goes through them the other way round.
+use Rattle.std.proofs.Common.{ℕ, zero, suc, ℤ, List, [], ◌∷◌, ◌++◌, ◌≡◌, ◌≢◌, ◌<◌, inl, inr, refl, sym, ◌∙◌, ap, subst, arith}
 use Rattle.std.specs.List.{All}
 use Rattle.std.proofs.lemmas.Bool.{cases_lt}
 use Rattle.std.proofs.lemmas.List.Elements.{All-nil, All-cons, All-head, All-tail}
@@ -14,7 +12,7 @@ use Rattle.ideal_tri.specs.Words.{closed_up}
 use Rattle.ideal_tri.specs.Triangulations.{IsLabel, next, previous}
 use Rattle.ideal_tri.specs.Vectors.{corner_count}
 use Rattle.ideal_tri.specs.Strands.{State, IsStrand, strand_step, word_of}
-use Rattle.ideal_tri.specs.Peripheral.{AllNeighbours, TurnsOn, TurnsBack, IsPeripheral}
+use Rattle.ideal_tri.specs.Peripheral.{AllNeighbours, IsPeripheral}
 use Rattle.ideal_tri.specs.Vertices.{corner_step, corner_after, IsSameVertex}
 use Rattle.ideal_tri.specs.PeripheralParts.{HasFreeCorners}
 use Rattle.ideal_tri.proofs.Labels.{inverse-inverse, inverse_label}

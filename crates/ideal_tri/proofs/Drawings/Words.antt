@@ -1,4 +1,7 @@
 -- The words of a drawing are closed walks and have nothing to reduce.
+--
+-- A strand leaves a triangle by another side than the one where it enters: the next letter starts in the triangle where
+-- the one before ends, and is not its inverse. This holds all round, since the last state steps to the first.
 use Rattle.std.proofs.Common.{ℕ, ℤ, Bool, true, false, cond, leb, List, [], ◌∷◌, ◌++◌, ◌≡◌, ◌≢◌, ◌<◌, ◌-◌, ◌⊎◌, inl, inr, refl, sym, ◌∙◌, ap, subst, arith, length}
 use Rattle.std.specs.List.{All}
 use Rattle.std.proofs.lemmas.List.Elements.{All-head, All-tail, All-map, All-weaker}
