@@ -109,7 +109,8 @@ impl Tri {
         ensures accepted { IfOk result (λ t. IsTriangulation triples.now × (t ≡ triples.now)) }
         ensures size { IfOk result (λ _. IsOfGoodSize triples.now) }
         ensures refused { IfErr result (IsRefusedGluing triples.now) }
-        ensures exact { IfErr result (λ _. ¬ (IsOfGoodSize triples.now × IsTriangulation triples.now)) }
+        ensures exact { IfErr result (λ _. ¬ (IsOfGoodSize triples.now
+            × IsTriangulation triples.now)) }
     {
         if triples.is_empty() {
             return Err(TriError::NoTriangle);
