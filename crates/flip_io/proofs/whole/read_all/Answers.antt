@@ -1,5 +1,5 @@
 use Rattle.std.proofs.Common.{rules, ◌≡◌, ◌≤◌, ℕ, Some, length, ◌∙◌, sym, ap, subst, refl}
-use Rattle.flip_io.specs.Reads.{none, more}
+use Rattle.flip_io.specs.Reads.{no_read, next_read}
 use Rattle.flip_io.proofs.Pieces.{has_some, not_err, next_bytes, piece-IsLonger, whole_file}
 use Rattle.flip_io.proofs.whole.read_all.Goals as goal
 
@@ -8,7 +8,7 @@ loop-bytes-init g c = record {
   within = search rules;
   told = search rules;
   uncounted = λ other. refl;
-  reads = none _;
+  reads = no_read _;
   start = λ files file told there. search rules;
 }
 
@@ -43,23 +43,23 @@ returns-then-n-limit-clause-too_long g c = λ files told.
     (λ _. (longer, (λ e. cc), (λ e. cc)), λ _. refl)
 
 pub returns-in_err-n-clause-reads : goal.returns-in_err-n-clause-reads
-returns-in_err-n-clause-reads g c = more _ c.loop-bytes.invariant.reads refl c.in_err-n.ensures.read
+returns-in_err-n-clause-reads g c = next_read _ c.loop-bytes.invariant.reads refl c.in_err-n.ensures.read
 
 pub returns-then-n-eq0-clause-reads : goal.returns-then-n-eq0-clause-reads
-returns-then-n-eq0-clause-reads g c = more _ c.loop-bytes.invariant.reads refl c.in_ok-n.ensures.read
+returns-then-n-eq0-clause-reads g c = next_read _ c.loop-bytes.invariant.reads refl c.in_ok-n.ensures.read
 
 pub returns-then-n-limit-clause-reads : goal.returns-then-n-limit-clause-reads
-returns-then-n-limit-clause-reads g c = more _ c.loop-bytes.invariant.reads refl c.in_ok-n.ensures.read
+returns-then-n-limit-clause-reads g c = next_read _ c.loop-bytes.invariant.reads refl c.in_ok-n.ensures.read
 
 pub returns-in_err-extend_from_slice-clause-reads : goal.returns-in_err-extend_from_slice-clause-reads
-returns-in_err-extend_from_slice-clause-reads g c = more _ c.loop-bytes.invariant.reads refl c.in_ok-n.ensures.read
+returns-in_err-extend_from_slice-clause-reads g c = next_read _ c.loop-bytes.invariant.reads refl c.in_ok-n.ensures.read
 
 pub loop-bytes-preserved : goal.loop-bytes-preserved
 loop-bytes-preserved g c = record {
   within = search rules;
   told = search rules;
   uncounted = search rules;
-  reads = more _ c.loop-bytes.invariant.reads refl c.in_ok-n.ensures.read;
+  reads = next_read _ c.loop-bytes.invariant.reads refl c.in_ok-n.ensures.read;
   start = λ files file told there.
       let here = c.loop-bytes.invariant.told ∙ told in
       let piece = c.in_ok-n.ensures.bytes files file here there in
