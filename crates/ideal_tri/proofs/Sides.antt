@@ -2,7 +2,6 @@
 use Rattle.std.proofs.Common.{ℕ, ℤ, pos, Bool, true, false, List, [], ◌∷◌, ◌≡◌, ◌≢◌, ◌≤◌, ◌<◌, ◌+◌, ◌*◌, ◌/◌, ◌%◌, suc, zero, refl, sym, ◌∙◌, ap, subst, if◌then◌else◌, arith, length, take, get_or, length-take-le}
 use Rattle.std.specs.List.{All}
 use Rattle.std.specs.Ordering.{int_eq}
-use Rattle.std.proofs.lemmas.Bool.Decides.{Decides-int_eq}
 use Rattle.std.proofs.lemmas.List.{get_or_default, get_or-take}
 use Rattle.std.proofs.lemmas.List.Concat.{get_or-flat_map}
 use Rattle.std.proofs.lemmas.List.Elements.{All-head, All-tail, All-take, All-from_get_or}
@@ -11,7 +10,7 @@ use Rattle.ideal_tri.specs.Labels.{inverse, edge_of}
 use Rattle.ideal_tri.specs.Triangulations.{labels_of, IsLabel, has_side, triangle_of, place_in, side_of, next_in, next}
 use Rattle.ideal_tri.specs.Refusals.{IsDistinct}
 use Rattle.ideal_tri.specs.Places.{key_of, label_at, IsGlued, IsLaidOut}
-use Rattle.ideal_tri.proofs.Labels.{edge_of-inverse}
+use Rattle.ideal_tri.proofs.Labels.{int_eq-same, int_eq-other}
 use Rattle.ideal_tri.proofs.Places.{small_label}
 use Rattle.ideal_tri.proofs.Counting.{count, never, length-labels_of, AreAllLabels, all_labels}
 
@@ -44,16 +43,6 @@ apart ts i r j s three distinct b c d order e =
 
 -- ---- within a triple
 
-same_test : (x : ℤ) → int_eq x x ≡ true
-same_test x = (Decides-int_eq x x).1 refl
-
-other_test : (y x : ℤ) → y ≢ x → int_eq y x ≡ false
-other_test y x ne = go (int_eq y x) refl
-  where
-    go : (b : Bool) → int_eq y x ≡ b → int_eq y x ≡ false
-    go true e = absurd (ne ((Decides-int_eq y x).0 e))
-    go false e = e
-
 -- x is side s of the triple
 record IsSide (t : List ℤ) (x : ℤ) (s : ℕ) : Type 0 where
   has : has_side x t ≡ true
@@ -63,14 +52,14 @@ record IsSide (t : List ℤ) (x : ℤ) (s : ℕ) : Type 0 where
 has_not : (t : List ℤ) (x : ℤ) → ((r : ℕ) → r < length t → get_or t r (pos 0) ≢ x) → has_side x t ≡ false
 has_not t x h =
     list_any_none (λ y. int_eq y x) t
-    (All-from_get_or (λ y. int_eq y x ≡ false) t (pos 0) (λ r b. other_test (get_or t r (pos 0)) x (h r b)))
+    (All-from_get_or (λ y. int_eq y x ≡ false) t (pos 0) (λ r b. int_eq-other (get_or t r (pos 0)) x (h r b)))
 
 has_at : (t : List ℤ) (x : ℤ) (s : ℕ) → s < length t → get_or t s (pos 0) ≡ x → has_side x t ≡ true
-has_at t x s b e = list_any_at (λ y. int_eq y x) t s (pos 0) b ((Decides-int_eq (get_or t s (pos 0)) x).1 e)
+has_at t x s b e = list_any_at (λ y. int_eq y x) t s (pos 0) b (int_eq-same (get_or t s (pos 0)) x e)
 
 first_side : (a b c x : ℤ) → a ≡ x → IsSide (a ∷ (b ∷ (c ∷ []))) x 0
 first_side a b c x e =
-    let h : int_eq a x ≡ true = (Decides-int_eq a x).1 e in
+    let h : int_eq a x ≡ true = int_eq-same a x e in
     record {
       has = has_at (a ∷ (b ∷ (c ∷ []))) x 0 (omega arith) e;
       place = ap (λ (v : Bool). if v then 0 else suc (place_in (b ∷ (c ∷ [])) x)) h;
@@ -79,8 +68,8 @@ first_side a b c x e =
 
 second_side : (a b c x : ℤ) → a ≢ x → b ≡ x → IsSide (a ∷ (b ∷ (c ∷ []))) x 1
 second_side a b c x ne e =
-    let g : int_eq a x ≡ false = other_test a x ne in
-    let h : int_eq b x ≡ true = (Decides-int_eq b x).1 e in
+    let g : int_eq a x ≡ false = int_eq-other a x ne in
+    let h : int_eq b x ≡ true = int_eq-same b x e in
     record {
       has = has_at (a ∷ (b ∷ (c ∷ []))) x 1 (omega arith) e;
       place =
@@ -91,9 +80,9 @@ second_side a b c x ne e =
 
 third_side : (a b c x : ℤ) → a ≢ x → b ≢ x → c ≡ x → IsSide (a ∷ (b ∷ (c ∷ []))) x 2
 third_side a b c x ne nf e =
-    let g : int_eq a x ≡ false = other_test a x ne in
-    let h : int_eq b x ≡ false = other_test b x nf in
-    let i : int_eq c x ≡ true = (Decides-int_eq c x).1 e in
+    let g : int_eq a x ≡ false = int_eq-other a x ne in
+    let h : int_eq b x ≡ false = int_eq-other b x nf in
+    let i : int_eq c x ≡ true = int_eq-same c x e in
     record {
       has = has_at (a ∷ (b ∷ (c ∷ []))) x 2 (omega arith) e;
       place =
@@ -189,11 +178,6 @@ pub is_label_at : (ts : List (List ℤ)) (places : List ℕ) (i s : ℕ) → IsG
 is_label_at ts places i s h b c =
     let long : length (labels_of ts) ≡ 3 * length ts = length-labels_of ts h.three_sides in
     subst (IsLabel ts) (label_read ts i s h.three_sides b c) (h.in_range (3 * i + s) (pos 0) (omega arith))
-
-pub is_label-inverse : (ts : List (List ℤ)) (x : ℤ) → IsLabel ts x → IsLabel ts (inverse x)
-is_label-inverse ts x h =
-    let e : edge_of (inverse x) ≡ edge_of x = edge_of-inverse x in
-    omega arith
 
 -- what is read at the key of x
 pub record IsRead (ts : List (List ℤ)) (x : ℤ) (n : ℕ) : Type 0 where

@@ -1,6 +1,7 @@
 -- The table of places of a triangulation, and the table after two triangles are changed.
 use Rattle.std.proofs.Common.{ℕ, ℤ, pos, negsuc, List, [], ◌∷◌, ◌≡◌, ◌≢◌, ◌≤◌, ◌<◌, ◌+◌, ◌-◌, ◌*◌, ◌/◌, ◌%◌, suc, zero, ◌⊎◌, inl, inr, refl, sym, ◌∙◌, ap, subst, arith, length, take, set, get_or, replicate}
 use Rattle.std.specs.List.{All}
+use Rattle.std.proofs.lemmas.Bool.{cases_eq}
 use Rattle.std.proofs.lemmas.List.{length-set, get_or-set_same, get_or-set_other, get_or-take, length-take-le, take_all}
 use Rattle.std.proofs.lemmas.Grind.{same_number_lists}
 use Rattle.std.proofs.lemmas.List.Elements.{All-head, All-tail, All-from_get_or}
@@ -16,9 +17,6 @@ use Rattle.ideal_tri.proofs.Triangles.{IsOnce-triangulation, label_of_counted}
 -- each is a label of at most 48 edges
 abbrev AreSmall : List ℤ → Type 0
 AreSmall xs = All (λ (x : ℤ). edge_of x < 48) xs
-
-same_number : (m n : ℕ) → (m ≡ n) ⊎ (m ≢ n)
-same_number m n = grind arith
 
 -- ---- places written one after another
 
@@ -58,7 +56,7 @@ placed_take xs all d few (suc k) h =
     let before : IsPlaced (take k xs) (places_of (take k xs)) = placed_take xs all d few k (omega arith) in
     let small : edge_of (get_or xs k (pos 0)) < 48 = all k (pos 0) (omega arith) in
     let free : get_or (places_of (take k xs)) (key_of (get_or xs k (pos 0))) 0 ≡ 255 =
-    elim (same_number (get_or (places_of (take k xs)) (key_of (get_or xs k (pos 0))) 0) 255) [
+    elim (cases_eq (get_or (places_of (take k xs)) (key_of (get_or xs k (pos 0))) 0) 255) [
       | inl e ↦ e
       | inr ne ↦
           (let (within, is) = before.used (get_or xs k (pos 0)) small ne in
@@ -127,7 +125,7 @@ at_place ts places t s h b c =
 at_no_label : (ts : List (List ℤ)) (places : List ℕ) (x : ℤ) → IsGlued ts places → edge_of x < 48 → edge_count ts ≤ edge_of x
     → get_or places (key_of x) 0 ≡ 255
 at_no_label ts places x h small b =
-    elim (same_number (get_or places (key_of x) 0) 255) [
+    elim (cases_eq (get_or places (key_of x) 0) 255) [
       | inl e ↦ e
       | inr ne ↦
           (let (within, is) = h.placed.used x small ne in
@@ -198,14 +196,14 @@ at_outside us places after i j h first second x small not_i not_j =
 at_label : (ts us : List (List ℤ)) (places after : List ℕ) (i j : ℕ) → IsGlued ts places → IsGlued us after → AreChanged ts us i j → (t s : ℕ)
     → t < length us → s < 3 → get_or (rewritten us places i j) (key_of (label_at us t s)) 0 ≡ 3 * t + s
 at_label ts us places after i j g h change t s b c =
-    elim (same_number t j) [
+    elim (cases_eq t j) [
       | inl at_j ↦
           subst (λ (n : ℕ). get_or (rewritten us places i j) (key_of (label_at us n s)) 0 ≡ 3 * n + s) (sym at_j)
           (written-at (with_places places (3 * i) (get_or us i [])) (3 * j) (get_or us j []) s
           (written-length places (3 * i) (get_or us i []) ∙ g.placed.room) (row_small us after j h change.second)
           (row_distinct us after j h change.second) (subst (λ (n : ℕ). s < n) (sym (h.three_sides j [] change.second)) c))
       | inr not_j ↦
-          elim (same_number t i) [
+          elim (cases_eq t i) [
             | inl at_i ↦
                 subst (λ (n : ℕ). get_or (rewritten us places i j) (key_of (label_at us n s)) 0 ≡ 3 * n + s) (sym at_i)
                 (written-other (with_places places (3 * i) (get_or us i [])) (3 * j) (get_or us j []) (label_at us i s)

@@ -1,7 +1,7 @@
 -- What holds of the flip of an edge.
-use Rattle.std.specs.Prelude.{◌≡◌, ◌≢◌, ℤ, List, [], ◌∷◌}
+use Rattle.std.specs.Prelude.{◌≡◌, ◌≢◌, ℕ, ℤ, List, [], ◌∷◌}
 use Rattle.ideal_tri.specs.Labels.{inverse}
-use Rattle.ideal_tri.specs.Triangulations.{IsTriangulation, IsLabel, edge_count, triangle_of, next, previous}
+use Rattle.ideal_tri.specs.Triangulations.{IsTriangulation, IsConnected, IsLabel, IsReached, edge_count, triangle_of, next, previous}
 use Rattle.ideal_tri.specs.Flips.{IsFlippable, flipped}
 use Rattle.ideal_tri.specs.Refusals.{IsDistinct}
 
@@ -20,6 +20,9 @@ IsOutside triples e x =
 pub record FlipLaws (triples : List (List ℤ)) (e : ℤ) : Type 0 where
   pub triangulation : IsTriangulation (flipped triples e)
   pub edges : edge_count (flipped triples e) ≡ edge_count triples
+  -- what a walk joins stays joined
+  pub reached : (s t : ℕ) → IsReached triples s t → IsReached (flipped triples e) s t
+  pub connected : IsConnected triples → IsConnected (flipped triples e)
   pub other_side : flipped triples (inverse e) ≡ flipped triples e
   pub different : IsDistinct (quadrilateral triples e)
   pub after_e : next (flipped triples e) e ≡ previous triples (inverse e)

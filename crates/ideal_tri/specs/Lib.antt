@@ -8,11 +8,17 @@ pub mod Curves
 pub mod Vectors
 pub mod Strands
 pub mod Peripheral
+pub mod LabelLaws
 pub mod WordLaws
 pub mod SurfaceLaws
 pub mod Relabellings
+pub mod HitLaws
+pub mod BijectionLaws
+pub mod RelabellingLaws
 pub mod Flips
 pub mod FlipLaws
 pub mod Vertices
 pub mod VertexLaws
 pub mod TripleLaws
+pub mod Components
+pub mod ComponentLaws

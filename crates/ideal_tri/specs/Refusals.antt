@@ -1,6 +1,6 @@
 -- Which triples are no triangulation, and why: the first of these that holds.
 use Rattle.std.specs.Prelude.{◌≡◌, ◌≢◌, ◌<◌, ℕ, ℤ, pos, List, length, take, slice_index_or, All, Contains}
-use Rattle.ideal_tri.specs.Triangulations.{labels_of, edge_count, IsLabel, IsReached}
+use Rattle.ideal_tri.specs.Triangulations.{labels_of, edge_count, IsLabel, IsReached, IsTriangulation}
 use Rattle.ideal_tri.specs.declared.tri.TriError.{TriError}
 use Rattle.ideal_tri.specs.declared.tri.TriError.TheVariants.{NoTriangle, TooManyEdges, LabelRange, LabelTwice, Disconnected}
 
@@ -32,14 +32,20 @@ pub record IsFirstRepeated (triples : List (List ℤ)) (x : ℤ) : Type 0 where
 -- t is the least triangle that can't be reached from triangle 0
 pub record IsLeastUnreached (triples : List (List ℤ)) (t : ℕ) : Type 0 where
   pub within : t < length triples
-  pub unreached : IsReached triples t → ⊥
-  pub before : (s : ℕ) → s < t → IsReached triples s
+  pub unreached : IsReached triples 0 t → ⊥
+  pub before : (s : ℕ) → s < t → IsReached triples 0 s
 
--- this refusal fits, and none that is tested before it
+-- this refusal of a gluing fits, and none that is tested before it
+abbrev pub IsRefusedGluing : List (List ℤ) → TriError → Type 0
+IsRefusedGluing triples NoTriangle = length triples ≡ 0
+IsRefusedGluing triples (TooManyEdges n) = (48 < edge_count triples) × (n ≡ edge_count triples)
+IsRefusedGluing triples (LabelRange x) = IsOfGoodSize triples × IsFirstOutside triples x
+IsRefusedGluing triples (LabelTwice x) =
+    IsOfGoodSize triples × All (IsLabel triples) (labels_of triples) × IsFirstRepeated triples x
+IsRefusedGluing triples (Disconnected t) = ⊥
+
+-- the same for a connected gluing: connection is tested last
 abbrev pub IsRefusedFor : List (List ℤ) → TriError → Type 0
-IsRefusedFor triples NoTriangle = length triples ≡ 0
-IsRefusedFor triples (TooManyEdges n) = (48 < edge_count triples) × (n ≡ edge_count triples)
-IsRefusedFor triples (LabelRange x) = IsOfGoodSize triples × IsFirstOutside triples x
-IsRefusedFor triples (LabelTwice x) = IsOfGoodSize triples × All (IsLabel triples) (labels_of triples) × IsFirstRepeated triples x
 IsRefusedFor triples (Disconnected t) =
-    IsOfGoodSize triples × All (IsLabel triples) (labels_of triples) × IsDistinct (labels_of triples) × IsLeastUnreached triples t
+    IsOfGoodSize triples × IsTriangulation triples × IsLeastUnreached triples t
+IsRefusedFor triples e = IsRefusedGluing triples e

@@ -47,20 +47,21 @@ impl Tri {
         VertexId(first_corners(self, rank(first)))
     }
 
-    /// How many vertices there are, from 1 to two more than half of the triangles.
+    /// How many vertices there are: at least one for each component, and at most two more than half of its triangles.
     pub fn vertex_count(&self) -> u32
         ensures { result ≡ vertex_count self.now }
     {
         first_corners(self, 2 * self.edges())
     }
 
-    /// The genus of the surface with its punctures filled in, from its Euler characteristic:
-    /// vertices - edges + triangles = 2 - 2 genus.
+    /// The genus of the surface with its punctures filled in, the sum of the genera of its components. It comes from the
+    /// Euler characteristic: vertices - edges + triangles = 2 components - 2 genus.
     pub fn genus(&self) -> u32
         ensures { result ≡ genus self.now }
     {
         vertex_laws();
-        (2 + self.edges() - self.triangles() - self.vertex_count()) / 2
+        let edges = self.edges();
+        (2 * self.components() + edges - self.triangles() - self.vertex_count()) / 2
     }
 }
 
