@@ -118,7 +118,13 @@ moves_undone laws arena s e t (m ∷ moves) h (here, at, rest) below =
 -- ---- the laws
 
 pub handle_laws : MoveLaws → HandleLaws
-handle_laws laws = record { ends = ends_in; leads = leads laws; back = step_of-back laws }
+handle_laws laws = record {
+  ends = ends_in;
+  leads = leads laws;
+  back = step_of-back laws;
+  back_source = source_of-back;
+  back_target = target_of-back;
+}
 
 pub way_laws : MapLaws → WayLaws
 way_laws laws = record {

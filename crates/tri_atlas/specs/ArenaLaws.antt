@@ -39,6 +39,8 @@ pub record HandleLaws : Type 0 where
   pub leads : (arena : Arena) (m : MoveHandle) → IsArena arena → IsMoveIn arena m
       → IsMove (triangulation arena (source_of arena m)) (triangulation arena (target_of arena m))
       (step_of arena m)
+  pub back_source : (arena : Arena) (m : MoveHandle) → source_of arena (back m) ≡ target_of arena m
+  pub back_target : (arena : Arena) (m : MoveHandle) → target_of arena (back m) ≡ source_of arena m
   pub back : (arena : Arena) (m : MoveHandle) → IsArena arena → IsMoveIn arena m
       → step_of arena (back m) ≡ back_of (step_of arena m)
 

@@ -1,7 +1,8 @@
 -- The fields of a `Relabelling` are those that its images give.
-use Rattle.std.proofs.Common.{ℕ, ℤ, pos, List, ◌++◌, ◌≡◌, ◌≤◌, ◌-◌, sym, ◌∙◌, ap, arith, length, take, drop, replicate}
+use Rattle.std.proofs.Common.{ℕ, ℤ, pos, List, ◌++◌, ◌≡◌, ◌≤◌, ◌-◌, sym, ◌∙◌, ap, arith, length}
+use Rattle.std.proofs.Common.{take, drop, replicate}
 use Rattle.std.proofs.lemmas.List.{length-take-le, take-append-drop}
-use Rattle.relabel.specs.Relabellings.{IsBijection}
+use Rattle.ideal_tri.specs.Relabellings.{IsBijection}
 
 -- the slots that are not used
 unfoldable pub spare_slots : ℕ → List ℤ
@@ -14,8 +15,12 @@ pub record IsLaidOut (count : ℕ) (images : List ℤ) : Type 0 where
   pub spare : drop count images ≡ spare_slots (48 - count)
   pub sound : IsBijection (take count images)
 
-pub count_again : (count : ℕ) (images : List ℤ) → IsLaidOut count images → length (take count images) ≡ count
-count_again count images h = let fits : count ≤ 48 = h.fits in let room : length images ≡ 48 = h.room in length-take-le count images (omega arith)
+pub count_again : (count : ℕ) (images : List ℤ) → IsLaidOut count images
+    → length (take count images) ≡ count
+count_again count images h =
+    let fits : count ≤ 48 = h.fits in
+    let room : length images ≡ 48 = h.room in
+    length-take-le count images (omega arith)
 
 pub images_again : (count : ℕ) (images : List ℤ) → IsLaidOut count images
     → take count images ++ spare_slots (48 - length (take count images)) ≡ images
