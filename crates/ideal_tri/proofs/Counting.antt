@@ -5,6 +5,7 @@ use Rattle.std.specs.Ordering.{int_eq}
 use Rattle.std.proofs.lemmas.Bool.Decides.{nat_tests}
 use Rattle.std.proofs.lemmas.List.Elements.{All-head, All-tail}
 use Rattle.std.proofs.lemmas.List.Sums.{sum_by-cons}
+use Rattle.ideal_tri.specs.declared.tri.TheConstants.{NOWHERE, TRIANGLES}
 use Rattle.ideal_tri.specs.Labels.{edge_of}
 use Rattle.ideal_tri.specs.Triangulations.{labels_of, edge_count, IsLabel}
 use Rattle.ideal_tri.specs.Refusals.{IsDistinct, IsOfGoodSize}
@@ -172,8 +173,8 @@ label_counts ts h x =
       | inr b ↦ (let none : count (labels_of ts) x ≡ 0 = h.none x b in grind (arith, nat_tests))
     ]
 
-pub below_255 : (ts : List (List ℤ)) (xs : List ℤ) (k : ℕ) → xs ≡ labels_of ts → IsOfGoodSize ts → All (λ t. length t ≡ 3) ts → k < length xs → k < 255
+pub below_255 : (ts : List (List ℤ)) (xs : List ℤ) (k : ℕ) → xs ≡ labels_of ts → IsOfGoodSize ts → All (λ t. length t ≡ 3) ts → k < length xs → k < NOWHERE
 below_255 ts xs k e size three b =
-    let small : length ts ≤ 32 = small_size ts size in
+    let small : length ts ≤ TRIANGLES = small_size ts size in
     let long : length xs ≡ 3 * length ts = ap length e ∙ length-labels_of ts three in
     omega arith

@@ -6,10 +6,11 @@ use Rattle.std.proofs.lemmas.List.{get_or_default, get_or-take}
 use Rattle.std.proofs.lemmas.List.Concat.{get_or-flat_map}
 use Rattle.std.proofs.lemmas.List.Elements.{All-head, All-tail, All-take, All-from_get_or}
 use Rattle.std.proofs.lemmas.List.Folds.{list_any_at, list_any_none}
+use Rattle.ideal_tri.specs.declared.tri.TheConstants.{NOWHERE, TRIANGLES}
 use Rattle.ideal_tri.specs.Labels.{inverse, edge_of}
 use Rattle.ideal_tri.specs.Triangulations.{labels_of, IsLabel, has_side, triangle_of, place_in, side_of, next_in, next}
 use Rattle.ideal_tri.specs.Refusals.{IsDistinct}
-use Rattle.ideal_tri.specs.Places.{key_of, label_at, IsGlued, IsLaidOut}
+use Rattle.ideal_tri.specs.inside.Places.{key_of, label_at, IsGlued, IsLaidOut}
 use Rattle.ideal_tri.proofs.Labels.{int_eq-same, int_eq-other}
 use Rattle.ideal_tri.proofs.Places.{small_label}
 use Rattle.ideal_tri.proofs.Counting.{count, never, length-labels_of, AreAllLabels, all_labels}
@@ -149,7 +150,7 @@ pub record IsFound (ts : List (List ℤ)) (places : List ℕ) (x : ℤ) : Type 0
 pub all_there : (ts : List (List ℤ)) (places : List ℕ) → IsGlued ts places → AreAllLabels ts
 all_there ts places h = all_labels ts h.three_sides h.in_range h.placed.distinct
 
-pub taken : (ts : List (List ℤ)) (places : List ℕ) (x : ℤ) → IsGlued ts places → IsLabel ts x → get_or places (key_of x) 0 ≢ 255
+pub taken : (ts : List (List ℤ)) (places : List ℕ) (x : ℤ) → IsGlued ts places → IsLabel ts x → get_or places (key_of x) 0 ≢ NOWHERE
 taken ts places x h b e =
     let all : AreAllLabels ts = all_there ts places h in
     let one : count (labels_of ts) x ≡ 1 = all.once x b in
@@ -213,10 +214,10 @@ next_read ts places x h b =
 -- the side after x, read off the array of triples
 pub next_side : (n : ℕ) (sides : List (List ℤ)) (places : List ℕ) (x : ℤ) (i s : ℕ) (d : ℤ) → IsLaidOut n sides places → IsLabel (take n sides) x
     → i ≡ triangle_of (take n sides) x → s ≡ side_of (take n sides) x
-    → (i < 32) × (get_or (get_or sides i []) ((s + 1) % 3) d ≡ next (take n sides) x)
+    → (i < TRIANGLES) × (get_or (get_or sides i []) ((s + 1) % 3) d ≡ next (take n sides) x)
 next_side n sides places x i s d h b e f =
-    let fits : n ≤ 32 = h.fits in
-    let room : length sides ≡ 32 = h.room in
+    let fits : n ≤ TRIANGLES = h.fits in
+    let room : length sides ≡ TRIANGLES = h.room in
     let long : length (take n sides) ≡ n = length-take-le n sides (omega arith) in
     let (within, after) = next_read (take n sides) places x h.glued b in
     let below : i < n = omega arith in
@@ -234,8 +235,8 @@ next_side n sides places x i s d h b e f =
 pub row_labels : (n : ℕ) (sides : List (List ℤ)) (places : List ℕ) (i : ℕ) → IsLaidOut n sides places → i < length (take n sides)
     → All (IsLabel (take n sides)) (get_or sides i [])
 row_labels n sides places i h b =
-    let fits : n ≤ 32 = h.fits in
-    let room : length sides ≡ 32 = h.room in
+    let fits : n ≤ TRIANGLES = h.fits in
+    let room : length sides ≡ TRIANGLES = h.room in
     let long : length (take n sides) ≡ n = length-take-le n sides (omega arith) in
     let row : get_or (take n sides) i [] ≡ get_or sides i [] = get_or-take n sides i [] (omega arith) in
     let three : length (get_or (take n sides) i []) ≡ 3 = h.glued.three_sides i [] b in

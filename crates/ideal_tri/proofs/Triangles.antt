@@ -46,7 +46,7 @@ times_of_side x (y ∷ ys) h =
     ]
 
 -- and one that hasn't does not
-times_of_no_side : (x : ℤ) (t : List ℤ) → has_side x t ≡ false → times x t ≡ 0
+pub times_of_no_side : (x : ℤ) (t : List ℤ) → has_side x t ≡ false → times x t ≡ 0
 times_of_no_side x [] h = refl
 times_of_no_side x (y ∷ ys) h =
     elim (same_or_not y x) [

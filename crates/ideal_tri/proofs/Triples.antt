@@ -26,6 +26,25 @@ triangle_at_place (t ∷ rest) zero a b c once below e =
 triangle_at_place (t ∷ rest) (suc k) a b c once below e =
     later_triangle t rest a b c k once (triangle_at_place rest k a b c (IsOnce-tail t rest once) (omega arith) e)
 
+-- the three sides of triangle t, in their order
+pub record HasTriple (triples : List (List ℤ)) (t : ℕ) : Type 0 where
+  pub first : ℤ
+  pub second : ℤ
+  pub third : ℤ
+  pub is : get_or triples t [] ≡ first ∷ (second ∷ (third ∷ []))
+  pub sides : Triangle triples first second third t
+
+pub triple_at : (triples : List (List ℤ)) → IsTriangulation triples → (t : ℕ) → t < length triples → HasTriple triples t
+triple_at triples h t below =
+    let (a, b, c, is) = three_listed (get_or triples t []) (h.three_sides t [] below) in
+    record {
+      first = a;
+      second = b;
+      third = c;
+      is = is;
+      sides = triangle_at_place triples t a b c (IsOnce-triangulation triples h) below is;
+    }
+
 -- the rotations of three letters
 three_rotations : (x y z : ℤ) (t : List ℤ) → IsRotation (x ∷ (y ∷ (z ∷ []))) t
     → (t ≡ x ∷ (y ∷ (z ∷ []))) ⊎ ((t ≡ y ∷ (z ∷ (x ∷ []))) ⊎ (t ≡ z ∷ (x ∷ (y ∷ []))))

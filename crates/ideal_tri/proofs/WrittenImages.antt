@@ -3,6 +3,7 @@ use Rattle.std.proofs.Common.{ℕ, ℤ, pos, negsuc, List, ◌≡◌, ◌≢◌,
 use Rattle.std.proofs.lemmas.Bool.{cases_lt}
 use Rattle.std.proofs.lemmas.List.{get_or-set_same, get_or-set_other, get_or-take, length-take-le, length-set, drop-set-lt, length-replicate, drop-replicate}
 use Rattle.std.proofs.lemmas.List.FromFn.{fill_by_all}
+use Rattle.ideal_tri.specs.declared.tri.TheConstants.{EDGES}
 use Rattle.ideal_tri.specs.Labels.{inverse, edge_of, with_sign_of}
 use Rattle.ideal_tri.specs.Relabellings.{IsBijection, origin_of, inverse_images}
 use Rattle.ideal_tri.proofs.Hits.{place_of_hit, one_place}
@@ -11,18 +12,18 @@ use Rattle.ideal_tri.proofs.InverseImages.{origin_of-inverse, origin_of-entry}
 
 -- the labels of the first n images are written, and nothing past the edges
 pub record AreWritten (images slots : List ℤ) (n : ℕ) : Type 0 where
-  pub room : length slots ≡ 48
+  pub room : length slots ≡ EDGES
   pub written : (d : ℕ) → d < n → get_or slots (edge_of (get_or images d (pos 0))) (pos 0) ≡ with_sign_of (get_or images d (pos 0)) (pos d)
-  pub rest : drop (length images) slots ≡ replicate (48 - length images) (pos 0)
+  pub rest : drop (length images) slots ≡ replicate (EDGES - length images) (pos 0)
 
-pub none_written : (images : List ℤ) (x : ℤ) → x ≡ pos 0 → AreWritten images (replicate 48 x) 0
+pub none_written : (images : List ℤ) (x : ℤ) → x ≡ pos 0 → AreWritten images (replicate EDGES x) 0
 none_written images x is = record {
-  room = length-replicate 48 x;
+  room = length-replicate EDGES x;
   written = λ d below. absurd (omega arith);
-  rest = ap (λ (y : ℤ). drop (length images) (replicate 48 y)) is ∙ drop-replicate (length images) 48 (pos 0);
+  rest = ap (λ (y : ℤ). drop (length images) (replicate EDGES y)) is ∙ drop-replicate (length images) EDGES (pos 0);
 }
 
-pub written_more : (images slots : List ℤ) (n : ℕ) → IsBijection images → length images ≤ 48 → n < length images → AreWritten images slots n
+pub written_more : (images slots : List ℤ) (n : ℕ) → IsBijection images → length images ≤ EDGES → n < length images → AreWritten images slots n
     → AreWritten images (set slots (edge_of (get_or images n (pos 0))) (with_sign_of (get_or images n (pos 0)) (pos n))) (n + 1)
 written_more images slots n h few below before = record {
   room = length-set slots edge label ∙ before.room;
@@ -58,7 +59,7 @@ origin_written images d (pos e) h below is = ap (origin_of images) (sym is) ∙ 
 origin_written images d (negsuc e) h below is =
     origin_of-inverse images (negsuc e) ∙ ap (λ (z : ℤ). inverse (origin_of images z)) (sym is) ∙ ap inverse (origin_of-entry images d h below)
 
-pub all_written : (images slots : List ℤ) → IsBijection images → length images ≤ 48 → AreWritten images slots (length images)
+pub all_written : (images slots : List ℤ) → IsBijection images → length images ≤ EDGES → AreWritten images slots (length images)
     → take (length images) slots ≡ inverse_images images
 all_written images slots h few done =
     fill_by_all (λ n. origin_of images (pos n)) (take (length images) slots) (length images) (pos 0)

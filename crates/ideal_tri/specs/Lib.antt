@@ -2,8 +2,6 @@ pub mod Labels
 pub mod Words
 pub mod Triangulations
 pub mod Refusals
-pub mod Places
-pub mod LaidOut
 pub mod Curves
 pub mod Vectors
 pub mod Strands
@@ -20,3 +18,6 @@ pub mod FlipLaws
 pub mod Vertices
 pub mod VertexLaws
 pub mod TripleLaws
+pub mod Components
+pub mod ComponentLaws
+pub mod inside

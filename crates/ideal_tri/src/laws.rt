@@ -4,9 +4,10 @@
 ghost use Rattle.ideal_tri.specs.LabelLaws.{LabelLaws};
 ghost use Rattle.ideal_tri.specs.WordLaws.{WordLaws};
 ghost use Rattle.ideal_tri.specs.SurfaceLaws.{SurfaceLaws};
-ghost use Rattle.ideal_tri.specs.FlipLaws.{QuadrilateralLaws};
+ghost use Rattle.ideal_tri.specs.FlipLaws.{FlipLaws};
 ghost use Rattle.ideal_tri.specs.TripleLaws.{TripleLaws};
-ghost use Rattle.ideal_tri.specs.VertexLaws.{PunctureLaws};
+ghost use Rattle.ideal_tri.specs.VertexLaws.{VertexLaws};
+ghost use Rattle.ideal_tri.specs.ComponentLaws.{ComponentLaws};
 ghost use Rattle.ideal_tri.specs.HitLaws.{HitLaws};
 ghost use Rattle.ideal_tri.specs.BijectionLaws.{BijectionLaws};
 ghost use Rattle.ideal_tri.specs.RelabellingLaws.{RelabellingLaws};
@@ -28,7 +29,7 @@ pub fn surface_laws()
 
 /// What is proved of the flip of an edge.
 pub fn flip_laws()
-    ensures { QuadrilateralLaws }
+    ensures { FlipLaws }
 {}
 
 /// What is proved of the triples of a triangulation, read from any of their sides.
@@ -36,9 +37,14 @@ pub fn triple_laws()
     ensures { TripleLaws }
 {}
 
-/// What is proved of the vertices of a triangulation: how they are numbered, and that there are no more than on a sphere.
+/// What is proved of the vertices of a triangulation: how they are numbered, and that there are no more than on spheres.
 pub fn vertex_laws()
-    ensures { PunctureLaws }
+    ensures { VertexLaws }
+{}
+
+/// What is proved of the components of a triangulation: how they are numbered, and that none is a single triangle.
+pub fn component_laws()
+    ensures { ComponentLaws }
 {}
 
 /// What is proved of how often the labels of a list hit an edge.

@@ -3,10 +3,10 @@ use Rattle.std.proofs.Common.{ℕ, ℤ, List, [], ◌∷◌, ◌++◌, ◌≡◌
 use Rattle.ideal_tri.specs.Labels.{inverse}
 use Rattle.ideal_tri.specs.LabelLaws.{LabelLaws}
 use Rattle.ideal_tri.specs.Words.{inverse_word}
-use Rattle.ideal_tri.specs.Triangulations.{IsTriangulation, IsLabel, IsWalk, triangle_of, next}
+use Rattle.ideal_tri.specs.Triangulations.{IsTriangulation, IsConnected, IsLabel, IsWalk, triangle_of, next}
 use Rattle.ideal_tri.specs.SurfaceLaws.{SurfaceLaws, TriangleLaws, WalkLaws}
 
--- what holds of a label, of the one after each, and of the inverse of each, holds of all
+-- what holds of a label, of the one after each, and of the inverse of each, holds of all where the triangles are connected
 module _ (labels : LabelLaws) (surfaces : SurfaceLaws) (triples : List (List ℤ)) (h : IsTriangulation triples)
     (P : ℤ → Type 0) (goes_on : (x : ℤ) → IsLabel triples x → P x → P (next triples x))
     (goes_over : (x : ℤ) → P x → P (inverse x)) where
@@ -34,10 +34,10 @@ module _ (labels : LabelLaws) (surfaces : SurfaceLaws) (triples : List (List ℤ
       along_walk w (triangle_of triples (inverse x)) t walk.2
       (throughout (inverse x) (labels.label triples x walk.0) (goes_over x (q x walk.0 walk.1)))
 
-  pub holds_of_all : (x : ℤ) → IsLabel triples x → P x → (z : ℤ) → IsLabel triples z → P z
-  holds_of_all x label p z z_label =
-      let to_x = h.connected (triangle_of triples x) (triangles.triangle x label) in
-      let to_z = h.connected (triangle_of triples z) (triangles.triangle z z_label) in
+  pub holds_of_all : IsConnected triples → (x : ℤ) → IsLabel triples x → P x → (z : ℤ) → IsLabel triples z → P z
+  holds_of_all connected x label p z z_label =
+      let to_x = connected.reached (triangle_of triples x) (triangles.triangle x label) in
+      let to_z = connected.reached (triangle_of triples z) (triangles.triangle z z_label) in
       along_walk (inverse_word to_x.letters ++ to_z.letters) (triangle_of triples x) (triangle_of triples z)
       (walks.join (triangle_of triples x) 0 (triangle_of triples z) (inverse_word to_x.letters) to_z.letters
       (walks.back 0 (triangle_of triples x) to_x.letters to_x.walk) to_z.walk)

@@ -15,7 +15,7 @@ use Rattle.std.proofs.lemmas.List.Sums.{sum_by-set}
 use Rattle.std.proofs.lemmas.List.{get_or-set_same, get_or-set_other, get_or-take, get_or-replicate, length-replicate}
 use Rattle.std.proofs.lemmas.List.{length-set, get_or_past, length-take-le, ext_get_or}
 use Rattle.ideal_tri.specs.Labels.{inverse, edge_of, with_sign_of}
-use Rattle.ideal_tri.specs.Triangulations.{IsTriangulation, IsLabel, edge_count, next}
+use Rattle.ideal_tri.specs.Triangulations.{IsTriangulation, IsConnected, IsLabel, edge_count, next}
 use Rattle.ideal_tri.specs.Relabellings.{image_of, IsRelabelling}
 use Rattle.ideal_tri.specs.LabelLaws.{LabelLaws}
 use Rattle.ideal_tri.specs.SurfaceLaws.{SurfaceLaws}
@@ -191,12 +191,12 @@ module _ (labels : LabelLaws) (surfaces : SurfaceLaws) (bijections : BijectionLa
           (known_image from to x y images known s h open_at.here))
 
   pub forced_list : (from to : List (List ℤ)) (x y : ℤ) (images : List ℤ) (known : List Bool) → IsTriangulation from
-      → IsLabel from x
+      → IsConnected from → IsLabel from x
       → IsForced from to x y images known → IsClosed from known → IsForcedList from to x y images
-  forced_list from to x y images known from_is label h closed others r takes e below =
+  forced_list from to x y images known from_is connected label h closed others r takes e below =
       h.forced others r takes e
       (holds_of_all labels surfaces from from_is (λ z. IsKnown known (edge_of z)) closed
-      (λ z k. subst (IsKnown known) (sym (labels.edge z)) k) x label h.start (pos e) below)
+      (λ z k. subst (IsKnown known) (sym (labels.edge z)) k) connected x label h.start (pos e) below)
 
   pub tables_start : (from to : List (List ℤ)) (x y : ℤ) (images : List ℤ) (known : List Bool) → IsLabel to y
       → edge_of x < 48

@@ -9,12 +9,9 @@ ghost use Rattle.relabel.specs.Refusals.{IsFirstOutside, IsLeastHitTwice, HitsNo
 ghost use Rattle.relabel.specs.Refusals.{IsLeastBroken};
 
 use ideal_tri::{
-    Label, Tri, bijection_laws, hit_laws, inverse_images, relabelling_laws, triple_laws,
+    EDGES, Label, Tri, bijection_laws, hit_laws, inverse_images, relabelling_laws, triple_laws,
 };
 use std::marker::Model;
-
-/// The most edges of a triangulation.
-pub(crate) const EDGES: usize = 48;
 
 /// A relabelling of one ideal triangulation onto another with as many edges (after Bell's flipper):
 /// a bijection of their labels that takes `-1 - x` to `-1 - y` where it takes `x` to `y`, and each
@@ -43,6 +40,7 @@ pub enum RelabelError {
 
 impl Model for Relabelling {
     ghost use Rattle.std.specs.Prelude.{ℤ, List, ◌++◌, ◌-◌, length, take};
+    ghost use Rattle.ideal_tri.specs.declared.tri.TheConstants.{EDGES};
     ghost use Rattle.relabel.specs.inside.LaidOut.{IsLaidOut, spare_slots, count_again};
     ghost use Rattle.relabel.specs.inside.LaidOut.{images_again};
 
@@ -54,7 +52,7 @@ impl Model for Relabelling {
 
     ghost inverse = { λ xs. record {
       count = length xs;
-      images = xs ++ spare_slots (48 - length xs);
+      images = xs ++ spare_slots (EDGES - length xs);
     } };
 
     ghost inverse_ok = { λ a h i. record {
@@ -96,7 +94,7 @@ impl Relabelling {
 
     /// Keeps these images.
     fn from_images(list: &[i32]) -> Relabelling
-        requires small { length list.now ≤ 48 }
+        requires small { length list.now ≤ EDGES }
         requires bijection { IsBijection list.now }
         ensures { result ≡ list.now }
     {
@@ -131,7 +129,7 @@ impl Relabelling {
     /// How many edges each of the two triangulations has.
     fn edges(&self) -> u32
         ensures count { result ≡ length self.now }
-        ensures small { result ≤ 48 }
+        ensures small { result ≤ EDGES }
         ensures bijection { IsBijection self.now }
     {
         self.count

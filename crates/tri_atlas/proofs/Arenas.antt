@@ -2,7 +2,7 @@
 use Rattle.std.proofs.Common.{◌≡◌, ◌∙◌, ◌<◌, ◌++◌, [], ◌∷◌, ℕ, zero, suc, ℤ, Bool, true, false, List, refl, sym, ap, subst, length, get_or, arith, length-append}
 use Rattle.std.proofs.lemmas.List.{append-nil, get_or_append_left, get_or_push}
 use Rattle.ideal_tri.specs.Flips.{IsFlippable, flipped}
-use Rattle.ideal_tri.specs.FlipLaws.{FlipLaws, QuadrilateralLaws}
+use Rattle.ideal_tri.specs.FlipLaws.{OneFlipLaws, FlipLaws}
 use Rattle.ideal_tri.specs.Relabellings.{IsRelabelling}
 use Rattle.ideal_tri.specs.Triangulations.{IsTriangulation, IsLabel, edge_count}
 use Rattle.ideal_tri.specs.Labels.{edge_of}
@@ -133,11 +133,11 @@ flip_entry_kept old e after here flippable is =
     }
 
 -- a flip and its triangulation
-pub IsArena-flip : (old new : Arena) (e : EdgeHandle) (after : List (List ℤ)) → QuadrilateralLaws → IsArena old → IsEdgeIn old e
+pub IsArena-flip : (old new : Arena) (e : EdgeHandle) (after : List (List ℤ)) → FlipLaws → IsArena old → IsEdgeIn old e
     → IsFlippable (triangulation old e.tri) e.label → after ≡ flipped (triangulation old e.tri) e.label
     → new.triangulations ≡ old.triangulations ++ after ∷ [] → new.moves ≡ old.moves ++ flip_entry old e ∷ [] → IsArena new
 IsArena-flip old new e after laws h here flippable is t m =
-    let flip_laws : FlipLaws (triangulation old e.tri) e.label =
+    let flip_laws : OneFlipLaws (triangulation old e.tri) e.label =
     laws.flips (triangulation old e.tri) e.label (h.sound e.tri here.tri) here.label flippable in
     let between : Arena = record { triangulations = old.triangulations ++ after ∷ []; moves = old.moves; spare = 0 } in
     let sound : IsTriangulation after = subst IsTriangulation (sym is) flip_laws.triangulation in

@@ -5,7 +5,7 @@ use Rattle.std.proofs.lemmas.List.Elements.{All-nil, All-cons, All-head, All-tai
 use Rattle.ideal_tri.specs.Labels.{inverse, edge_of}
 use Rattle.ideal_tri.specs.Words.{inverse_word}
 use Rattle.ideal_tri.specs.SurfaceLaws.{TriangleLaws, WalkLaws}
-use Rattle.ideal_tri.specs.FlipLaws.{FlipLaws}
+use Rattle.ideal_tri.specs.FlipLaws.{OneFlipLaws}
 use Rattle.ideal_tri.specs.Flips.{flipped}
 use Rattle.ideal_tri.specs.Triangulations.{IsLabel, IsWalk, edge_count, triangle_of, next, previous}
 use Rattle.tri_atlas.specs.Moves.{IsFlip}
@@ -124,23 +124,23 @@ module _ (laws : LowerLaws) where
   at_side_d before target e a b c d t h =
       ap (triangle_of before) h.side_d ∙ triangle_of-previous before (inverse e) t (laws.labels.label before e h.label)
 
-  now_b : (before target : List (List ℤ)) (e a b c d : ℤ) → FlipLaws before e → IsFlip before target e a b c d
+  now_b : (before target : List (List ℤ)) (e a b c d : ℤ) → OneFlipLaws before e → IsFlip before target e a b c d
       → triangle_of target b ≡ triangle_of before (inverse e)
   now_b before target e a b c d q h =
       ap (λ (t : List (List ℤ)). triangle_of t b) h.result ∙ ap (triangle_of (flipped before e)) h.side_b ∙ q.moved_b
 
-  now_d : (before target : List (List ℤ)) (e a b c d : ℤ) → FlipLaws before e → IsFlip before target e a b c d
+  now_d : (before target : List (List ℤ)) (e a b c d : ℤ) → OneFlipLaws before e → IsFlip before target e a b c d
       → triangle_of target d ≡ triangle_of before e
   now_d before target e a b c d q h =
       ap (λ (t : List (List ℤ)). triangle_of t d) h.result ∙ ap (triangle_of (flipped before e)) h.side_d ∙ q.moved_d
 
-  kept_triangle : (before target : List (List ℤ)) (e a b c d x : ℤ) → FlipLaws before e → IsFlip before target e a b c d
+  kept_triangle : (before target : List (List ℤ)) (e a b c d x : ℤ) → OneFlipLaws before e → IsFlip before target e a b c d
       → IsLabel before x → x ≢ b → x ≢ d → triangle_of target x ≡ triangle_of before x
   kept_triangle before target e a b c d x q h l n m =
       ap (λ (t : List (List ℤ)). triangle_of t x) h.result ∙ q.stays x l (λ k. n (k ∙ sym h.side_b)) (λ k. m (k ∙ sym h.side_d))
 
   -- the triangles of the flipped edge stay, those of b and d change places
-  slides : (before target : List (List ℤ)) (e a b c d : ℤ) → TriangleLaws before → FlipLaws before e → IsFlip before target e a b c d
+  slides : (before target : List (List ℤ)) (e a b c d : ℤ) → TriangleLaws before → OneFlipLaws before e → IsFlip before target e a b c d
       → IsSlide target e b d (triangle_of before)
   slides before target e a b c d t q h = record {
     label = label_after_flip before target e a b c d e h h.label;
@@ -161,7 +161,7 @@ module _ (laws : LowerLaws) where
       kept x l n m = kept_triangle before target e a b c d x q h l n m
 
   -- and backwards
-  slides_back : (before target : List (List ℤ)) (e a b c d : ℤ) → TriangleLaws before → FlipLaws before e → IsFlip before target e a b c d
+  slides_back : (before target : List (List ℤ)) (e a b c d : ℤ) → TriangleLaws before → OneFlipLaws before e → IsFlip before target e a b c d
       → IsSlide before (inverse e) b d (triangle_of target)
   slides_back before target e a b c d t q h = record {
     label = laws.labels.label before e h.label;
@@ -172,12 +172,12 @@ module _ (laws : LowerLaws) where
     others = λ x l n m. kept_triangle before target e a b c d x q h l n m;
   }
 
-  pub flip_walk : (before target : List (List ℤ)) (e a b c d x : ℤ) → TriangleLaws before → WalkLaws target → FlipLaws before e
+  pub flip_walk : (before target : List (List ℤ)) (e a b c d x : ℤ) → TriangleLaws before → WalkLaws target → OneFlipLaws before e
       → IsFlip before target e a b c d → IsLabel before x → IsWalk target (triangle_of before x) (flip_image e b d x) (triangle_of before (inverse x))
   flip_walk before target e a b c d x t walks q h l =
       slide_walk target e b d (triangle_of before) x walks (slides before target e a b c d t q h) (label_after_flip before target e a b c d x h l)
 
-  pub unflip_walk : (before target : List (List ℤ)) (e a b c d x : ℤ) → TriangleLaws before → WalkLaws before → FlipLaws before e
+  pub unflip_walk : (before target : List (List ℤ)) (e a b c d x : ℤ) → TriangleLaws before → WalkLaws before → OneFlipLaws before e
       → IsFlip before target e a b c d → IsLabel target x
       → IsWalk before (triangle_of target x) (flip_image (inverse e) b d x) (triangle_of target (inverse x))
   unflip_walk before target e a b c d x t walks q h l =

@@ -38,4 +38,4 @@ pub returns-clause-forced : goal.returns-clause-forced
 returns-clause-forced c =
     forced_list c.label_laws.ensures c.surface_laws.ensures c.bijection_laws.ensures c.relabelling_laws.ensures
     c.args.from.now c.args.to.now c.args.x c.args.y c.loop-side.images c.loop-side.known c.edges-edges.ensures.sound
-    c.requires.label c.loop-side.invariant.forced c.in_default.ensures.none
+    c.requires.connected c.requires.label c.loop-side.invariant.forced c.in_default.ensures.none

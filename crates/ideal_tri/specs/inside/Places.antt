@@ -1,5 +1,6 @@
--- How a `Tri` lays out its triples: an array of 32 of them, and a table that says where each label stands.
+-- How a `Tri` lays out its triples: an array of them, and a table that says where each label stands.
 use Rattle.std.specs.Prelude.{◌≡◌, ◌≢◌, ◌<◌, ◌≤◌, ◌+◌, ◌-◌, ℕ, ℤ, pos, negsuc, List, [], ◌∷◌, length, take, drop, replicate, slice_set, slice_index_or, All}
+use Rattle.ideal_tri.specs.declared.tri.TheConstants.{EDGES, LABELS, NOWHERE, TRIANGLES}
 use Rattle.ideal_tri.specs.Labels.{inverse, edge_of}
 use Rattle.ideal_tri.specs.Triangulations.{labels_of, IsLabel, triangle_of, IsTriangulation}
 use Rattle.ideal_tri.specs.Refusals.{IsDistinct, IsOfGoodSize}
@@ -12,19 +13,19 @@ label_at triples t s = slice_index_or (slice_index_or triples t []) s (pos 0)
 abbrev pub neighbour : List (List ℤ) → ℕ → ℕ → ℕ
 neighbour triples t s = triangle_of triples (inverse (label_at triples t s))
 
--- where the table keeps the place of a label: x + 48
+-- where the table keeps the place of a label: x + EDGES
 abbrev pub key_of : ℤ → ℕ
-key_of (pos n) = n + 48
-key_of (negsuc n) = 47 - n
+key_of (pos n) = n + EDGES
+key_of (negsuc n) = EDGES - 1 - n
 
 -- writes down where each label stands, from a first place on
 abbrev pub with_places : List ℕ → ℕ → List ℤ → List ℕ
 with_places places at [] = places
 with_places places at (x ∷ xs) = with_places (slice_set places (key_of x) at) (at + 1) xs
 
--- for each label of at most 48 edges its place in the list, or 255
+-- for each label of at most EDGES edges its place in the list, or NOWHERE
 unfoldable pub places_of : List ℤ → List ℕ
-places_of xs = with_places (replicate 96 255) 0 xs
+places_of xs = with_places (replicate LABELS NOWHERE) 0 xs
 
 -- the entries of the array that hold no triangle
 unfoldable pub spare_triples : ℕ → List (List ℤ)
@@ -32,10 +33,10 @@ spare_triples n = replicate n (pos 0 ∷ (pos 0 ∷ (pos 0 ∷ [])))
 
 -- the table holds the places of these labels, which are all different
 pub record IsPlaced (xs : List ℤ) (places : List ℕ) : Type 0 where
-  pub room : length places ≡ 96
+  pub room : length places ≡ LABELS
   pub table : places ≡ places_of xs
-  pub free : (x : ℤ) → edge_of x < 48 → slice_index_or places (key_of x) 0 ≡ 255 → (k : ℕ) → k < length xs → slice_index_or xs k (pos 0) ≢ x
-  pub used : (x : ℤ) → edge_of x < 48 → slice_index_or places (key_of x) 0 ≢ 255
+  pub free : (x : ℤ) → edge_of x < EDGES → slice_index_or places (key_of x) 0 ≡ NOWHERE → (k : ℕ) → k < length xs → slice_index_or xs k (pos 0) ≢ x
+  pub used : (x : ℤ) → edge_of x < EDGES → slice_index_or places (key_of x) 0 ≢ NOWHERE
       → (slice_index_or places (key_of x) 0 < length xs) × (slice_index_or xs (slice_index_or places (key_of x) 0) (pos 0) ≡ x)
   pub distinct : IsDistinct xs
 
@@ -48,8 +49,8 @@ pub record IsGlued (triples : List (List ℤ)) (places : List ℕ) : Type 0 wher
 
 -- the fields hold a triangulation of `count` triangles, and nothing else
 pub record IsLaidOut (count : ℕ) (sides : List (List ℤ)) (places : List ℕ) : Type 0 where
-  pub fits : count ≤ 32
-  pub room : length sides ≡ 32
-  pub spare : drop count sides ≡ spare_triples (32 - count)
+  pub fits : count ≤ TRIANGLES
+  pub room : length sides ≡ TRIANGLES
+  pub spare : drop count sides ≡ spare_triples (TRIANGLES - count)
   pub glued : IsGlued (take count sides) places
   pub sound : IsTriangulation (take count sides)

@@ -1,9 +1,9 @@
 use Rattle.ideal_tri.specs.Triangulations.{IsTriangulation}
 use Rattle.ideal_tri.proofs.Laying.{triangulation, view_again, laid_out}
-use Rattle.ideal_tri.proofs.tri.Tri.from_triples.Goals as goal
+use Rattle.ideal_tri.proofs.tri.Tri.from_components.Goals as goal
 
 accepted : (c : goal.After-copy_sides) → IsTriangulation c.args.triples.now
-accepted c = triangulation c.args.triples.now c.in-Ok.place c.in-Ok.ensures.placed c.in_default-first_unreached.ensures.none
+accepted c = triangulation c.args.triples.now c.in-Ok.place c.in-Ok.ensures.placed
 
 pub invariant_of-result : goal.invariant_of-result
 invariant_of-result c =
