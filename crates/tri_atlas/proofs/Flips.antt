@@ -1,7 +1,7 @@
 -- What the sides of a flip say: the flipped edge is apart from them, labels stay labels, and images of letters are walks.
 use Rattle.std.proofs.Common.{ℕ, ℤ, List, [], ◌∷◌, ◌≡◌, ◌≢◌, ◌<◌, ◌*◌, ◌/◌, refl, sym, ◌∙◌, ap, subst, length, slice_set, length-set}
 use Rattle.std.specs.List.{All}
-use Rattle.std.proofs.lemmas.List.Elements.{All-nil, All-cons, All-head, All-tail, All-append}
+use Rattle.std.proofs.lemmas.List.Elements.{All-nil, All-cons, All-append}
 use Rattle.ideal_tri.specs.Labels.{inverse, edge_of}
 use Rattle.ideal_tri.specs.Words.{inverse_word}
 use Rattle.ideal_tri.specs.SurfaceLaws.{TriangleLaws, WalkLaws}

@@ -4,8 +4,8 @@ use Rattle.std.proofs.lemmas.List.{append-nil, append_assoc, get_or_append_left}
 use Rattle.ideal_tri.specs.Triangulations.{IsLabel}
 use Rattle.tri_atlas.specs.Moves.{Move, back_of, triangle_image}
 use Rattle.tri_atlas.specs.Arena.{Entry, Arena, EdgeHandle, MoveHandle, triangulation, entry_at, source_of, target_of, step_of, IsTriIn, IsEdgeIn, IsMoveIn, IsBeginning, IsArena, Grows}
-use Rattle.tri_atlas.specs.Paths.{MovePath, Lead, IsPathIn, triangle_along}
-use Rattle.tri_atlas.specs.ArenaLaws.{GrowthLaws}
+use Rattle.tri_atlas.specs.Paths.{MovePath, Lead, IsPathIn, triangle_across, triangle_along}
+use Rattle.tri_atlas.specs.AtlasLaws.{GrowthLaws}
 use Rattle.tri_atlas.proofs.Arenas.{triangulation_stays, ends_in}
 
 -- ---- beginnings of lists
@@ -96,8 +96,7 @@ same_steps old new s t (m ∷ moves) g h =
 
 -- triangles go the same way
 same_way : (old new : Arena) (m : MoveHandle) (t : ℕ) → IsArena old → Grows old new → IsMoveIn old m
-    → triangle_image (triangulation new (source_of new m)) (triangulation new (target_of new m)) (step_of new m) t
-    ≡ triangle_image (triangulation old (source_of old m)) (triangulation old (target_of old m)) (step_of old m) t
+    → triangle_across new m t ≡ triangle_across old m t
 same_way old new m t h g here =
     ap (λ (z : List (List ℤ)). triangle_image z (triangulation new (target_of new m)) (step_of new m) t)
     (ap (triangulation new) (same_source old new m g here) ∙ same_triangulation old new (source_of old m) g ends.0)

@@ -4,8 +4,9 @@ use Rattle.std.proofs.lemmas.List.{map-append, length-map, get_or-map}
 use Rattle.ideal_tri.specs.RelabellingLaws.{RelabellingLaws}
 use Rattle.tri_atlas.specs.Moves.{Move, flip, unflip, relabel, IsMove}
 use Rattle.tri_atlas.specs.Arena.{Entry, entry_at, IsEntryOf}
-use Rattle.tri_atlas.specs.Steps.{move_of, IsBijective}
-use Rattle.tri_atlas.specs.Fields.{entry_of}
+use Rattle.tri_atlas.specs.Steps.{move_of}
+use Rattle.tri_atlas.specs.inside.Backwards.{IsBijective}
+use Rattle.tri_atlas.specs.inside.Fields.{entry_of}
 use Rattle.tri_atlas.specs.declared.atlas.Kept.{Kept}
 
 -- one more move

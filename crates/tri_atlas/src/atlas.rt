@@ -1,10 +1,14 @@
 //! The arena of triangulations and moves.
-ghost use Rattle.std.specs.Prelude.{◌≡◌, ◌<◌, ◌≤◌, ◌+◌, ℕ, [], ◌∷◌, ◌++◌, length, IfOk, OnOk, OnErr, IfSome, IfNone};
+ghost use Rattle.std.specs.Prelude.{◌≡◌, ◌<◌, ◌≤◌, ◌+◌, ℕ, [], ◌∷◌, ◌++◌, length, IfOk, OnOk};
+ghost use Rattle.std.specs.Prelude.{OnErr, IfSome, IfNone};
 ghost use Rattle.ideal_tri.specs.Triangulations.{IsTriangulation, IsLabel, edge_count};
 ghost use Rattle.ideal_tri.specs.Flips.{IsFlippable, flipped};
 ghost use Rattle.ideal_tri.specs.Relabellings.{IsRelabelling};
 ghost use Rattle.tri_atlas.specs.Moves.{relabel};
-ghost use Rattle.tri_atlas.specs.Arena.{triangulation, IsTriIn, IsEdgeIn, IsMoveIn, IsArena, Grows, source_of, target_of, step_of, back, flip_of, flip_entry, edge_after, is_flipped_by, images_kept, relabel_entry, newest};
+ghost use Rattle.tri_atlas.specs.Arena.{triangulation, IsTriIn, IsEdgeIn, IsMoveIn, IsArena, Grows};
+ghost use Rattle.tri_atlas.specs.Arena.{source_of, target_of, step_of, back, flip_of, flip_entry};
+ghost use Rattle.tri_atlas.specs.Arena.{edge_after, is_flipped_by, images_kept, relabel_entry};
+ghost use Rattle.tri_atlas.specs.Arena.{newest};
 ghost use Rattle.tri_atlas.specs.Steps.{move_of, edge_in, is_new};
 ghost use Rattle.tri_atlas.specs.Paths.{is_flip};
 
@@ -37,7 +41,7 @@ impl Model for Atlas {
 
     ghost Value = { Arena };
 
-    ghost use Rattle.tri_atlas.specs.Fields.{arena_of, IsKept};
+    ghost use Rattle.tri_atlas.specs.inside.Fields.{arena_of, IsKept};
 
     ghost view = { arena_of };
 

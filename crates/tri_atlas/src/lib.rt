@@ -9,7 +9,6 @@
 //! and their maps stand in `specs/Moves.antt` and `specs/Maps.antt`.
 #![tactic(auto)]
 
-mod arena_laws;
 mod atlas;
 mod handles;
 mod laws;
@@ -18,9 +17,8 @@ mod step;
 #[cfg(test)]
 mod tests;
 
-pub use arena_laws::atlas_laws;
 pub use atlas::Atlas;
 pub use handles::{EdgeId, MoveId, TriId};
-pub use laws::map_laws;
+pub use laws::{atlas_laws, map_laws};
 pub use path::Path;
 pub use step::{Carried, Step};

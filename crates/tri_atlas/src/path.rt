@@ -1,7 +1,9 @@
 //! Paths of moves.
 ghost use Rattle.std.specs.Prelude.{◌≡◌, ◌≢◌, [], ◌++◌, All, count_by, map, IfOk, OnOk, OnErr};
-ghost use Rattle.tri_atlas.specs.Arena.{Arena, IsTriIn, IsMoveIn, source_of, target_of, step_of, back};
-ghost use Rattle.tri_atlas.specs.Paths.{IsPathIn, empty_path, then_move, joined, inverse_path, moves_of, is_flip};
+ghost use Rattle.tri_atlas.specs.Arena.{Arena, IsTriIn, IsMoveIn, source_of, target_of, step_of};
+ghost use Rattle.tri_atlas.specs.Arena.{back};
+ghost use Rattle.tri_atlas.specs.Paths.{IsPathIn, empty_path, then_move, joined, inverse_path};
+ghost use Rattle.tri_atlas.specs.Paths.{moves_of, is_flip};
 
 use crate::atlas::Atlas;
 use crate::handles::{MoveId, TriId};

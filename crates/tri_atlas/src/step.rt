@@ -5,7 +5,8 @@ ghost use Rattle.ideal_tri.specs.Relabellings.{image_of, origin_of, inverse_imag
 ghost use Rattle.tri_atlas.specs.Moves.{back_of};
 ghost use Rattle.tri_atlas.specs.Arena.{label_after, is_flipped_by};
 ghost use Rattle.tri_atlas.specs.Paths.{is_flip};
-ghost use Rattle.tri_atlas.specs.Steps.{move_of, IsBijective};
+ghost use Rattle.tri_atlas.specs.Steps.{move_of};
+ghost use Rattle.tri_atlas.specs.inside.Backwards.{IsBijective};
 
 use crate::handles::EdgeId;
 use ideal_tri::{Label, bijection_laws, inverse_images};

@@ -2,7 +2,7 @@ use Rattle.std.proofs.Common.{arith, ◌≡◌, ◌∙◌, ◌++◌, ◌∷◌, 
 use Rattle.std.proofs.lemmas.List.{length-map}
 use Rattle.ideal_tri.specs.Triangulations.{edge_count}
 use Rattle.tri_atlas.specs.Arena.{Arena, Entry, IsArena, triangulation, flip_of, flip_entry}
-use Rattle.tri_atlas.specs.Fields.{entry_of}
+use Rattle.tri_atlas.specs.inside.Fields.{entry_of}
 use Rattle.tri_atlas.specs.Steps.{move_of}
 use Rattle.tri_atlas.proofs.Arenas.{IsArena-flip, grows_by, entry_equal, triangulation_stays, newest_entry}
 use Rattle.tri_atlas.proofs.Kept.{moves_pushed}

@@ -2,7 +2,7 @@ use Rattle.std.proofs.Common.{arith, ◌≡◌, ◌∙◌, ◌++◌, ◌∷◌, 
 use Rattle.ideal_tri.specs.Triangulations.{edge_count}
 use Rattle.tri_atlas.specs.Moves.{relabel}
 use Rattle.tri_atlas.specs.Arena.{Arena, IsArena, triangulation, relabel_entry, images_kept}
-use Rattle.tri_atlas.specs.Fields.{entry_of}
+use Rattle.tri_atlas.specs.inside.Fields.{entry_of}
 use Rattle.tri_atlas.proofs.Arenas.{IsArena-relabel, grows_by, no_more, entry_equal}
 use Rattle.tri_atlas.proofs.Kept.{moves_pushed}
 use Rattle.tri_atlas.proofs.atlas.Atlas.push_relabel.Goals as goal
