@@ -56,7 +56,8 @@ triangle_back laws arena m t h here below =
     ∙ ap (λ (i : ℕ). triangle_image (triangulation arena (target_of arena m)) (triangulation arena i)
     (step_of arena (back m)) there)
     (target_of-back arena m)
-    ∙ ap (λ (n : Move). triangle_image (triangulation arena (target_of arena m)) (triangulation arena (source_of arena m))
+    ∙ ap (λ (n : Move). triangle_image (triangulation arena (target_of arena m))
+    (triangulation arena (source_of arena m))
     n there)
     (step_of-back laws arena m h here)
     ∙ laws.undo_triangle _ _ (step_of arena m) t (h.sound _ ends.0) (h.sound _ ends.1) (leads laws arena m h here) below
@@ -88,7 +89,8 @@ moves_back laws arena s t (m ∷ moves) h (here, at, rest) =
     ∙ map-append (step_of arena) (reverse (map back moves)) (back m ∷ [])
     ∙ ap (λ (z : List Move). z ++ (step_of arena (back m) ∷ []))
     (moves_back laws arena (target_of arena m) t moves h rest)
-    ∙ ap (λ (z : Move). reverse (map back_of (map (step_of arena) moves)) ++ (z ∷ [])) (step_of-back laws arena m h here)
+    ∙ ap (λ (z : Move). reverse (map back_of (map (step_of arena) moves)) ++ (z ∷ []))
+    (step_of-back laws arena m h here)
     ∙ sym (reverse-append (back_of (step_of arena m) ∷ []) (map back_of (map (step_of arena) moves)))
 
 -- ---- maps of paths
@@ -129,7 +131,8 @@ triangles_back laws arena s e t (m ∷ moves) h (here, at, rest) below =
     ap (λ (z : List MoveHandle). triangle_along arena z end) (reverse-append (back m ∷ []) (map back moves))
     ∙ along-append arena (reverse (map back moves)) (back m ∷ []) end
     ∙ ap (triangle_across arena (back m))
-    (triangles_back laws arena (target_of arena m) e there moves h rest ((move_map laws arena m h here).within t starts))
+    (triangles_back laws arena (target_of arena m) e there moves h rest
+    ((move_map laws arena m h here).within t starts))
     ∙ triangle_back laws arena m t h here starts
 
 -- ---- the laws
