@@ -1,4 +1,14 @@
 -- Arenas as they grow: what is kept stays, and the invariant holds after each push.
+--
+-- A push puts one element at the end of a list. What held of each element, and holds of the new one, holds of each
+-- element of the longer list; and the elements that were there have the same numbers. So the moves that were kept
+-- still lead from their sources to their targets. A flip that is pushed leads from its triangulation to the flipped
+-- one, pushed with it as the last; the flipped triangulation is one, with as many edges. A relabelling leads between
+-- two triangulations that are there.
+--
+-- A move read backwards is the backward move of what is kept, which leads from the target to the source. An edge that
+-- is carried has a label at its end: a flip keeps the labels, and the image of a label under a relabelling is the
+-- first letter of a walk, so a label.
 use Rattle.std.proofs.Common.{◌≡◌, ◌∙◌, ◌<◌, ◌++◌, [], ◌∷◌, ℕ, zero, suc, ℤ, Bool, true, false, List, refl, sym, ap}
 use Rattle.std.proofs.Common.{subst, length, get_or, arith, length-append}
 use Rattle.std.proofs.lemmas.List.{append-nil, get_or_append_left, get_or_push}

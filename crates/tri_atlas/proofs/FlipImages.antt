@@ -1,4 +1,12 @@
 -- The maps of flips and backward flips: they respect inverses, and undo each other.
+--
+-- Let e be the diagonal and a, b, c, d the other sides, (e,a,b) and (~e,c,d) the triangles. The flip moves b and d to
+-- the other triangles, so a step across b now begins with a step across e, and a step across d with one across ~e:
+-- write u(x) for what is put before x, so u(b) = e, u(d) = ~e and u(x) is empty otherwise. The image of x is u(x) x
+-- u(~x)^-1, and that of ~x is u(~x) ~x u(x)^-1, its inverse.
+--
+-- The backward flip puts u(x)^-1 before x. Both maps keep e, which is none of b, d, ~b and ~d; so they keep u(x), and
+-- one after the other takes x to u(x) u(x)^-1 x u(~x) u(~x)^-1, which reduces to x.
 use Rattle.std.proofs.Common.{ℤ, Bool, List, [], ◌∷◌, ◌++◌, ◌≡◌, ◌≢◌, inl, inr, refl, sym, ◌∙◌, ap, append_assoc}
 use Rattle.std.proofs.Common.{if◌then◌else◌}
 use Rattle.std.specs.Ordering.{int_eq}

@@ -1,5 +1,14 @@
--- What the sides of a flip say: the flipped edge is apart from them, labels stay labels, and images of letters are
+-- What the sides of a flip say: the flipped edge is apart from b and d, labels stay labels, and images of letters are
 -- walks.
+--
+-- The edge e is not folded, so its labels lie in two triangles, e in that of a and b, ~e in that of c and d. A side
+-- of its own triangle other than e is not e, and a side of the other triangle lies elsewhere: so e and ~e are neither
+-- b nor d. The flip replaces two triples by two others, and the numbers of triangles and edges stay.
+--
+-- Only b and d change triangles: b leaves that of e for that of ~e, and d goes the other way. Let u(x) be what is put
+-- before x. Then u(x) is a walk in the new triangulation from where x was to where x is now: a step across e for b,
+-- one across ~e for d, none for the others. So u(x) x u(~x)^-1 is a walk from where x was to where ~x was. Backwards
+-- the same holds with ~e for e, and both cases are one lemma on such an exchange.
 use Rattle.std.proofs.Common.{ℕ, ℤ, List, [], ◌∷◌, ◌≡◌, ◌≢◌, ◌<◌, ◌*◌, ◌/◌, refl, sym, ◌∙◌, ap, subst, length}
 use Rattle.std.proofs.Common.{slice_set, length-set}
 use Rattle.std.specs.List.{All}

@@ -1,4 +1,9 @@
 -- What is of an arena stays so, and means the same, as the arena grows.
+--
+-- The lists of a grown arena begin with the old ones. So a number below the old length is below the new one, and the
+-- element with that number is the same: a handle of the old arena is one of the new arena, and stands for the same
+-- triangulation, edge or move. Paths follow by induction on their moves. Where triangles go across a move is said by
+-- its two triangulations and what it does, all of which are the same.
 use Rattle.std.proofs.Common.{◌≡◌, ◌∙◌, ◌<◌, ◌++◌, [], ◌∷◌, ℕ, Bool, true, false, List, ℤ, refl, sym, ap, subst, length}
 use Rattle.std.proofs.Common.{map, arith, length-append}
 use Rattle.std.proofs.lemmas.List.{append-nil, append_assoc, get_or_append_left}

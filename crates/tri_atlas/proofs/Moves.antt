@@ -1,4 +1,14 @@
 -- The maps of moves: flips, backward flips and relabellings.
+--
+-- Each fact is shown for the three kinds of moves. That maps respect inverses, that the images of letters are walks,
+-- and that a move and its backward move undo each other is shown elsewhere for flips; for relabellings it says that
+-- the inverse images are the bijection backwards, and that a relabelling goes with the order of the sides of
+-- triangles.
+--
+-- A flip leaves triangles in their places. A relabelling moves the triangle with the number t to that of the image of
+-- its first side. Labels of one triangle have images in one triangle, so this is the triangle of the image of any of
+-- its sides: the map of the move is a map of walks. Back again, the image of a first side lies where the first side
+-- of its triangle does, and is taken back to the label that it came from; so each triangle comes back.
 use Rattle.std.proofs.Common.{ℕ, ℤ, pos, List, [], ◌∷◌, ◌≡◌, ◌<◌, refl, sym, ◌∙◌, ap, subst, length, get_or, arith}
 use Rattle.std.specs.List.{All}
 use Rattle.std.proofs.lemmas.List.{get_or_default}

@@ -1,4 +1,13 @@
 -- The maps of paths: they respect inverses, follow each other where paths do, and are undone by the path backwards.
+--
+-- The map of a path is built up move by move behind the identity, and reduced after each move. Behind any map f whose
+-- images are reduced the same moves give the map of the path after f: by induction on the moves, since a word may be
+-- reduced before it is mapped. This gives the map of two paths joined, and that of a first move followed by a path.
+--
+-- A path and the same path backwards run along the first move, along the rest and back, and along the first move
+-- backwards. The rest and back is the identity on the labels of the triangulation after the first move, by induction,
+-- and the letters of the image of a label are such labels. What is left is the first move and its backward move,
+-- which undo each other.
 use Rattle.std.proofs.Common.{ℤ, List, [], ◌∷◌, ◌++◌, ◌≡◌, refl, sym, ◌∙◌, ap, append_assoc, map}
 use Rattle.std.specs.List.{All, flat_map}
 use Rattle.std.proofs.lemmas.List.{append-nil, reverse-append}

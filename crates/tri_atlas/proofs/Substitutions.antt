@@ -1,4 +1,13 @@
 -- Substitutions that respect inverses go with reductions, with each other, and with closed words.
+--
+-- Let f put a word f(x) in the place of each letter x, with f(x^-1) = f(x)^-1. Where a word has a letter beside its
+-- inverse, its image has f(x) beside f(x)^-1, which cancel: so a word may be reduced before it is mapped, and the
+-- reduced image depends on the reduced word alone. One substitution after another is then the one whose images of
+-- letters are mapped and reduced.
+--
+-- A closed word w reduces to p c p^-1 with c its cyclic reduction. Its image reduces as f(p) f(c) f(p)^-1 does, which
+-- is a conjugate of f(c), and conjugate words have cyclic reductions that are rotations of each other. A rotation of
+-- w splits it in two, so the images are rotations of each other too.
 use Rattle.std.proofs.Common.{ℤ, Bool, cond, List, [], ◌∷◌, ◌++◌, ◌≡◌, inl, inr, refl, sym, ◌∙◌, ap, subst}
 use Rattle.std.specs.List.{flat_map}
 use Rattle.std.proofs.lemmas.List.{append-nil}

@@ -19,6 +19,6 @@ returns-clause-path c =
     let moves : c.deref.result.now ≡ c.args.self.now.moves =
     c.deref.ensures.value ∙ ap (λ (p : MovePath). p.moves) c.self.view_is in
     let back_moves : c.reverse.new.self.items ≡ reverse (map back c.args.self.now.moves) =
-    c.reverse.ensures.items ∙ ap reverse (c.in_ok-moves.ensures ∙ ap (map back) moves) in
+    c.reverse.ensures.items ∙ ap reverse (c.in_ok-moves.ensures.accepted ∙ ap (map back) moves) in
     subst (IsPathIn c.args.atlas.now) (sym (path_equal _ _ _ _ _ _ start end back_moves))
     (path_inverse c.args.atlas.now c.args.self.now c.requires)
