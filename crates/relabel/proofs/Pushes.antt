@@ -3,7 +3,7 @@ use Rattle.std.proofs.Common.{◌≡◌, ◌∙◌, ℕ, ℤ, List, sym, ap}
 use Rattle.ideal_tri.specs.Relabellings.{inverse_images}
 use Rattle.tri_atlas.specs.Moves.{Move, back_of}
 use Rattle.tri_atlas.specs.Arena.{Arena, MoveHandle, IsArena, Grows, back}
-use Rattle.tri_atlas.specs.ArenaLaws.{AtlasLaws}
+use Rattle.tri_atlas.specs.AtlasLaws.{AtlasLaws}
 use Rattle.relabel.specs.Pushed.{IsPushed}
 use Rattle.relabel.specs.PushLaws.{DoTheSame, PushLaws}
 
