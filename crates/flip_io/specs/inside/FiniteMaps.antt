@@ -1,5 +1,6 @@
 -- Lemmas for the law `finite`: a map from names to files has finitely many names.
-use Rattle.std.specs.Prelude.{◌≡◌, ℕ, List, [], ◌∷◌, map, Option, Some, None, Bool, true, false, cond, ◌||◌, String, string_bytes, refl}
+use Rattle.std.specs.Prelude.{◌≡◌, ℕ, List, [], ◌∷◌, map, Option, Some, None, Bool, true, false}
+use Rattle.std.specs.Prelude.{cond, ◌||◌, String, string_bytes, refl}
 use Rattle.std.proofs.Common.{ap, subst}
 use Rattle.std.proofs.lemmas.Map.Text.{is_eq-slice_cmp}
 use Rattle.std.specs.BTreeMap.{BTreeMap, get_by_text, is_at}
@@ -57,7 +58,8 @@ value_or a None = a
 value_or a (Some b) = b
 
 -- the law `finite` of a shelf that tells such a map
-pub told_map_is_finite : {X : Type 0} (f : X → List ℕ) (m : BTreeMap (String Global) X) (files : Files)
+pub told_map_is_finite : {X : Type 0} (f : X → List ℕ) (m : BTreeMap (String Global) X)
+    (files : Files)
     → Some (λ (name : List ℕ). option_map f (get_by_text m name)) ≡ Some files → IsFinite files
 told_map_is_finite f m files h = let P : Files → Type 0 = λ z. IsFinite z in
     subst P (ap (λ o. value_or files o) h) (map_is_finite f m)

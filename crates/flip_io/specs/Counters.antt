@@ -1,12 +1,10 @@
--- Which counter a name has, by the words of the command line.
+-- Which counter a name has on a shelf over the system's files, by the words of the command line.
 use Rattle.std.specs.Prelude.{ℕ, List, Bool, false, String, string_bytes, slice_get, if◌then◌else◌}
 use Rattle.std.specs.Option.{option_map_or}
 use Rattle.std.specs.Str.{bytes_eq}
 use Rattle.std.specs.declared.alloc.Global.{Global}
-use Rattle.flip_io.specs.Counts.{raised}
 use Rattle.flip_io.specs.declared.dir.Counter.{Counter}
 use Rattle.flip_io.specs.declared.dir.Counter.TheVariants.{First, Second, Third}
-use Rattle.flip_io.specs.declared.dir.Counters.{Counters}
 
 -- the word at this place is this name
 abbrev pub is_word : List (String Global) → ℕ → List ℕ → Bool
@@ -18,18 +16,3 @@ abbrev pub counter_of : List (String Global) → List ℕ → Counter
 counter_of words name = if is_word words 1 name then First
     else if is_word words 3 name then Second
     else Third
-
-abbrev pub count_at : Counters → Counter → ℕ
-count_at c First = c.first
-count_at c Second = c.second
-count_at c Third = c.third
-
--- the count of a name
-abbrev pub faults_of : Counters → List (String Global) → List ℕ → ℕ
-faults_of c words name = count_at c (counter_of words name)
-
--- one counter is raised, and the others stay
-abbrev pub raise_at : Counters → Counter → Counters
-raise_at c First = record c { first = raised c.first }
-raise_at c Second = record c { second = raised c.second }
-raise_at c Third = record c { third = raised c.third }
