@@ -10,7 +10,7 @@ use Rattle.std.proofs.Common.{subst, arith, length, get_or, map, All}
 use Rattle.std.proofs.lemmas.Bool.{cases_eq, cases_lt}
 use Rattle.std.proofs.lemmas.List.{get_or-map, length-map}
 use Rattle.std.proofs.lemmas.List.Elements.{All-head, All-tail, All-cons, All-push, All-get_or, All-map}
-use Rattle.ideal_tri.specs.Labels.{inverse, edge_of}
+use Rattle.ideal_tri.specs.Labels.{inverse, edge_of, with_sign_of}
 use Rattle.ideal_tri.specs.Words.{IsReduced, IsCyclicallyReduced, closed_up}
 use Rattle.ideal_tri.specs.Relabellings.{image_of, hits, IsBijection}
 use Rattle.ideal_tri.specs.BijectionLaws.{AreMapped}
@@ -22,6 +22,10 @@ use Rattle.ideal_tri.proofs.Hits.{hits_hit, hits_missed, place_of_hit, one_place
 pub image_of-inverse : (images : List ℤ) (x : ℤ) → image_of images (inverse x) ≡ inverse (image_of images x)
 image_of-inverse images (pos n) = refl
 image_of-inverse images (negsuc n) = sym (inverse-inverse (get_or images n (pos 0)))
+
+pub image_of-is : (images : List ℤ) (x : ℤ) → image_of images x ≡ with_sign_of x (get_or images (edge_of x) (pos 0))
+image_of-is images (pos n) = refl
+image_of-is images (negsuc n) = refl
 
 -- a label and its inverse have images of one edge
 pub edge_of-image_of : (images : List ℤ) (x : ℤ)

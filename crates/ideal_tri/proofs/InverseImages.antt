@@ -17,7 +17,8 @@ use Rattle.ideal_tri.specs.BijectionLaws.{BijectionLaws}
 use Rattle.ideal_tri.proofs.Labels.{inverse-inverse, not_own_inverse, edge_of-inverse, same_or_not, int_eq-same}
 use Rattle.ideal_tri.proofs.Labels.{int_eq-other}
 use Rattle.ideal_tri.proofs.Hits.{hits_hit, hits-le, hit_at, hits_le_one, each_hit_once}
-use Rattle.ideal_tri.proofs.Bijections.{image_of-inverse, edge_of-image_of, image_in_range, image_of-map, none_twice}
+use Rattle.ideal_tri.proofs.Bijections.{image_of-inverse, image_of-is, edge_of-image_of, image_in_range, image_of-map}
+use Rattle.ideal_tri.proofs.Bijections.{none_twice}
 use Rattle.ideal_tri.proofs.Bijections.{image_edge_apart, image_apart, has_origin, hits-image, IsReduced-image}
 use Rattle.ideal_tri.proofs.Bijections.{IsCyclicallyReduced-image, bijection_through}
 
@@ -184,6 +185,7 @@ twice images h =
 pub bijection_laws : BijectionLaws
 bijection_laws = record {
   inverse = image_of-inverse;
+  is = image_of-is;
   edge = edge_of-image_of;
   in_range = image_in_range;
   through = image_of-map;

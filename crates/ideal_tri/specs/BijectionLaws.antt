@@ -1,6 +1,6 @@
 -- What holds of the images of labels, of bijections of labels, and of their inverse images.
 use Rattle.std.specs.Prelude.{◌≡◌, ◌<◌, ◌≤◌, ℕ, ℤ, pos, List, length, map, slice_index_or, All}
-use Rattle.ideal_tri.specs.Labels.{inverse, edge_of}
+use Rattle.ideal_tri.specs.Labels.{inverse, edge_of, with_sign_of}
 use Rattle.ideal_tri.specs.Words.{IsReduced, IsCyclicallyReduced}
 use Rattle.ideal_tri.specs.Relabellings.{image_of, hits, IsBijection, origin_of, inverse_images}
 
@@ -12,6 +12,8 @@ pub record BijectionLaws : Type 0 where
   -- ---- images
   pub inverse : (images : List ℤ) (x : ℤ)
       → image_of images (inverse x) ≡ inverse (image_of images x)
+  pub is : (images : List ℤ) (x : ℤ)
+      → image_of images x ≡ with_sign_of x (slice_index_or images (edge_of x) (pos 0))
   pub edge : (images : List ℤ) (x : ℤ)
       → edge_of (image_of images x) ≡ edge_of (slice_index_or images (edge_of x) (pos 0))
   pub in_range : (images : List ℤ) (n : ℕ) (x : ℤ) → All (λ y. edge_of y < n) images

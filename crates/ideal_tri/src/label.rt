@@ -52,7 +52,8 @@ impl Label {
 
     /// The label itself, or its inverse where the number of `sign` is negative.
     pub fn with_sign_of(self, sign: Label) -> Label
-        ensures { result ≡ with_sign_of sign self }
+        ensures value { result ≡ with_sign_of sign self }
+        ensures edge { edge_of result ≡ edge_of self }
     {
         if sign.0 < 0 { self.inverse() } else { self }
     }

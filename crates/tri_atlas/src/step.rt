@@ -5,7 +5,8 @@ ghost use Rattle.ideal_tri.specs.Relabellings.{image_of, origin_of, inverse_imag
 ghost use Rattle.tri_atlas.specs.Moves.{back_of};
 ghost use Rattle.tri_atlas.specs.Arena.{label_after, is_flipped_by};
 ghost use Rattle.tri_atlas.specs.Paths.{is_flip};
-ghost use Rattle.tri_atlas.specs.Steps.{move_of, IsBijective};
+ghost use Rattle.tri_atlas.specs.Steps.{move_of};
+ghost use Rattle.tri_atlas.specs.inside.Backwards.{IsBijective};
 
 use crate::handles::EdgeId;
 use ideal_tri::{Label, bijection_laws, inverse_images};
@@ -13,7 +14,8 @@ use ideal_tri::{Label, bijection_laws, inverse_images};
 /// What a move does.
 #[derive(Clone, Copy, Debug)]
 pub enum Step {
-    /// The triangles `(e, a, b)` and `(~e, c, d)` become `(e, d, a)` and `(~e, b, c)`, where `~e` is the other direction of `e`.
+    /// The triangles `(e, a, b)` and `(~e, c, d)` become `(e, d, a)` and `(~e, b, c)`, where `~e`
+    /// is the other direction of `e`.
     Flip {
         e: Label,
         a: Label,
@@ -21,7 +23,8 @@ pub enum Step {
         c: Label,
         d: Label,
     },
-    /// A flip backwards, with the sides as the flip named them: `(e, d, a)` and `(~e, b, c)` become `(e, a, b)` and `(~e, c, d)`.
+    /// A flip backwards, with the sides as the flip named them: `(e, d, a)` and `(~e, b, c)` become
+    /// `(e, a, b)` and `(~e, c, d)`.
     Unflip {
         e: Label,
         a: Label,
@@ -29,8 +32,8 @@ pub enum Step {
         c: Label,
         d: Label,
     },
-    /// The labels `0` to `n - 1` get these new labels, with `n` edges, and `~x` the other direction of that of `x`.
-    /// Only the first `n` entries count.
+    /// The labels `0` to `n - 1` get these new labels, with `n` edges, and `~x` the other direction
+    /// of that of `x`. Only the first `n` entries count.
     Relabel([Label; 48]),
 }
 
@@ -120,6 +123,7 @@ fn image_back(images: &[Label; 48], edges: usize, x: Label) -> Label
     requires label { edge_of x < edges }
     ensures { result ≡ image_of (inverse_images (take edges images.now)) x }
 {
+    // the origin that is found is the image under the inverse images
     bijection_laws();
     origin(&images[..edges], x)
 }

@@ -20,7 +20,7 @@ loop-n-preserved c =
     let x_is : c.new.result ≡ pos n = search rules in
     let at : c.edge.result ≡ edge_of (get_or images n (pos 0)) = c.edge.ensures ∙ ap edge_of image_is in
     let value : c.with_sign_of.result ≡ with_sign_of (get_or images n (pos 0)) (pos n) =
-    c.with_sign_of.ensures ∙ ap₂ (λ (x : ℤ) (y : ℤ). with_sign_of x y) image_is x_is in
+    c.with_sign_of.ensures.value ∙ ap₂ (λ (x : ℤ) (y : ℤ). with_sign_of x y) image_is x_is in
     subst (λ (slots : List ℤ). AreWritten images slots (n + 1))
     (sym (ap₂ (λ (k : ℕ) (x : ℤ). set c.loop-n.inverse k x) at value))
     (written_more images c.loop-n.inverse n c.requires.bijection (omega arith) (omega arith) c.loop-n.invariant)

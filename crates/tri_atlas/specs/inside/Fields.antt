@@ -22,4 +22,5 @@ arena_of a = record {
 pub record IsKept (a : Inside) : Type 0 where
   pub arena : IsArena (arena_of a)
   pub edges : a.edges ≡ edge_count (triangulation (arena_of a) 0)
-  pub room : vec_capacity a.moves - vec_len a.moves ≤ vec_capacity a.triangulations - vec_len a.triangulations
+  pub room : vec_capacity a.moves - vec_len a.moves
+      ≤ vec_capacity a.triangulations - vec_len a.triangulations

@@ -1,6 +1,6 @@
 use Rattle.tri_atlas.proofs.Growth.{growth_laws}
 use Rattle.tri_atlas.proofs.Ways.{handle_laws, way_laws}
-use Rattle.tri_atlas.proofs.arena_laws.atlas_laws.Goals as goal
+use Rattle.tri_atlas.proofs.laws.atlas_laws.Goals as goal
 
 pub returns : goal.returns
 returns c = record {

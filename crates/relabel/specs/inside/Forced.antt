@@ -15,10 +15,13 @@ pub record IsOpen (triples : List (List ℤ)) (known : List Bool) (x : ℤ) : Ty
 
 -- where a label has a known image, the label after it has one
 abbrev pub IsClosed : List (List ℤ) → List Bool → Type 0
-IsClosed triples known = (x : ℤ) → IsLabel triples x → IsKnown known (edge_of x) → IsKnown known (edge_of (next triples x))
+IsClosed triples known =
+    (x : ℤ) → IsLabel triples x → IsKnown known (edge_of x)
+    → IsKnown known (edge_of (next triples x))
 
 -- all relabellings that take x to y begin with these images
 abbrev pub IsForcedList : List (List ℤ) → List (List ℤ) → ℤ → ℤ → List ℤ → Type 0
 IsForcedList from to x y images =
-    (others : List ℤ) → IsRelabelling from to others → image_of others x ≡ y → (e : ℕ) → e < edge_count from
+    (others : List ℤ) → IsRelabelling from to others → image_of others x ≡ y → (e : ℕ)
+    → e < edge_count from
     → slice_index_or others e (pos 0) ≡ slice_index_or images e (pos 0)

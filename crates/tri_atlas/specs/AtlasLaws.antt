@@ -4,10 +4,12 @@ use Rattle.std.specs.List.{flat_map}
 use Rattle.ideal_tri.specs.Words.{reduce}
 use Rattle.ideal_tri.specs.Triangulations.{IsWalk}
 use Rattle.tri_atlas.specs.Moves.{IsMove, ArePath, back_of, back_along}
-use Rattle.tri_atlas.specs.Maps.{IsMap, path_map}
-use Rattle.tri_atlas.specs.Arena.{Arena, EdgeHandle, MoveHandle, triangulation, source_of, target_of}
+use Rattle.tri_atlas.specs.Maps.{IsMap, image_of_letter, path_map}
+use Rattle.tri_atlas.specs.Arena.{Arena, EdgeHandle, MoveHandle, triangulation, source_of}
+use Rattle.tri_atlas.specs.Arena.{target_of}
 use Rattle.tri_atlas.specs.Arena.{step_of, back, IsTriIn, IsEdgeIn, IsMoveIn, IsArena, Grows}
-use Rattle.tri_atlas.specs.Paths.{MovePath, IsPathIn, moves_of, triangle_along, joined, inverse_path}
+use Rattle.tri_atlas.specs.Paths.{MovePath, IsPathIn, moves_of, triangle_across, triangle_along}
+use Rattle.tri_atlas.specs.Paths.{joined, inverse_path}
 
 -- what is of an atlas stays so, and means the same, as the atlas grows
 pub record GrowthLaws : Type 0 where
@@ -32,17 +34,22 @@ pub record GrowthLaws : Type 0 where
   pub triangles : (old new : Arena) (path : MovePath) (t : ℕ) → IsArena old → Grows old new
       → IsPathIn old path → triangle_along new path.moves t ≡ triangle_along old path.moves t
 
--- moves of an atlas lead from their start to their end
+-- moves of an atlas lead from their start to their end, and their maps carry walks to walks
 pub record HandleLaws : Type 0 where
   pub ends : (arena : Arena) (m : MoveHandle) → IsArena arena → IsMoveIn arena m
       → IsTriIn arena (source_of arena m) × IsTriIn arena (target_of arena m)
   pub leads : (arena : Arena) (m : MoveHandle) → IsArena arena → IsMoveIn arena m
       → IsMove (triangulation arena (source_of arena m)) (triangulation arena (target_of arena m))
       (step_of arena m)
+  pub back_source : (arena : Arena) (m : MoveHandle) → source_of arena (back m) ≡ target_of arena m
+  pub back_target : (arena : Arena) (m : MoveHandle) → target_of arena (back m) ≡ source_of arena m
+  pub maps : (arena : Arena) (m : MoveHandle) → IsArena arena → IsMoveIn arena m
+      → IsMap (triangulation arena (source_of arena m)) (triangulation arena (target_of arena m))
+      (image_of_letter (step_of arena m)) (triangle_across arena m)
   pub back : (arena : Arena) (m : MoveHandle) → IsArena arena → IsMoveIn arena m
       → step_of arena (back m) ≡ back_of (step_of arena m)
 
--- so do paths, and their maps carry walks to walks
+-- so do paths, and theirs too
 pub record WayLaws : Type 0 where
   pub leads : (arena : Arena) (path : MovePath) → IsArena arena → IsPathIn arena path
       → ArePath (triangulation arena path.start) (moves_of arena path)
