@@ -6,3 +6,5 @@ pub mod Paths
 pub mod Steps
 pub mod Fields
 pub mod ArenaLaws
+pub mod MovedVectors
+pub mod VectorLaws
