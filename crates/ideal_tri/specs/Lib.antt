@@ -9,6 +9,8 @@ pub mod Vectors
 pub mod Strands
 pub mod Peripheral
 pub mod WordLaws
+pub mod Drawings
+pub mod DrawingLaws
 pub mod SurfaceLaws
 pub mod Relabellings
 pub mod Flips

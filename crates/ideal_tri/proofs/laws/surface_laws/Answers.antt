@@ -4,7 +4,7 @@ use Rattle.ideal_tri.specs.SurfaceLaws.{DrawingLaws}
 use Rattle.ideal_tri.proofs.Triangles.{triangle_laws}
 use Rattle.ideal_tri.proofs.Walks.{walk_laws}
 use Rattle.ideal_tri.proofs.Strands.{corner_sum}
-use Rattle.ideal_tri.proofs.Drawings.{drawing_walks, drawing_reduced}
+use Rattle.ideal_tri.proofs.Drawings.Words.{drawing_walks, drawing_reduced}
 use Rattle.ideal_tri.proofs.Crossings.{drawing_counts}
 use Rattle.ideal_tri.proofs.laws.surface_laws.Goals as goal
 
