@@ -14,3 +14,4 @@ pub mod AtlasPaths
 pub mod Growth
 pub mod Ways
 pub mod Turn
+pub mod Vectors
