@@ -1,3 +1,5 @@
 pub mod Turns
 pub mod Exits
 pub mod Rows
+pub mod Pairs
+pub mod Passes

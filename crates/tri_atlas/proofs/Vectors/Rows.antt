@@ -83,7 +83,7 @@ pub record Agrees (pre : ℤ → List ℤ) (x : ℤ) (X : State) (letters : List
   pub same : X ≡ Y
   pub word : reduce (inverse_word (pre x) ++ (letters ++ pre X.label)) ≡ others
 
-agrees : (pre : ℤ → List ℤ) (x z : ℤ) (X Y : State) (letters others u v s t : List ℤ) → X.label ≡ z → Y.label ≡ z → X.place ≡ Y.place
+pub agrees : (pre : ℤ → List ℤ) (x z : ℤ) (X Y : State) (letters others u v s t : List ℤ) → X.label ≡ z → Y.label ≡ z → X.place ≡ Y.place
     → pre x ≡ u → letters ≡ v → pre z ≡ s → others ≡ t → reduce (inverse_word u ++ (v ++ s)) ≡ t → Agrees pre x X letters Y others
 agrees pre x z X Y letters others u v s t at_X at_Y places is_u is_v is_s is_t word = record {
   same = ap (λ (l : ℤ). state_at l X.place) (at_X ∙ sym at_Y) ∙ ap (state_at Y.label) places;

@@ -1,5 +1,5 @@
 -- One step of a strand: where it leaves the triangle, with places counted from both ends of a side.
-use Rattle.std.proofs.Common.{ℕ, ℤ, Bool, true, false, cond, leb, List, ◌≡◌, ◌≤◌, ◌<◌, ◌+◌, ◌-◌, inl, inr, sym, ◌∙◌, ap, subst, arith}
+use Rattle.std.proofs.Common.{ℕ, ℤ, Bool, true, false, cond, leb, List, ◌≡◌, ◌≤◌, ◌<◌, ◌+◌, ◌-◌, ◌⊎◌, inl, inr, refl, sym, ◌∙◌, ap, subst, arith}
 use Rattle.std.specs.Prelude.{slice_index}
 use Rattle.std.proofs.lemmas.Bool.{cases_lt, le-leb, lt-leb}
 use Rattle.ideal_tri.specs.Labels.{inverse}
@@ -75,3 +75,19 @@ turns_at triples w q i Y x y z h lx lz is_x is_y is_z is_Y there =
     let second = subst (λ (v : ℤ). Turns (corner_count triples w v) (next triples (inverse q.label)) v (weight w q.label) (weight w v) i r) there_z first in
     let third = subst (λ (v : ℤ). Turns (corner_count triples w z) v z (weight w q.label) (weight w z) i r) (ap (next triples) is_x ∙ is_y) second in
     subst (λ (v : ℕ). Turns (corner_count triples w z) y z v (weight w z) i r) is_Y third
+
+-- the side where a strand leaves is beside the one where it enters
+pub step_label : (triples : List (List ℤ)) (w : List ℕ) (q : State)
+    → ((strand_step triples w q).label ≡ next triples (inverse q.label)) ⊎ ((strand_step triples w q).label ≡ previous triples (inverse q.label))
+step_label triples w q = go (leb (corner_count triples w (previous triples (inverse q.label))) i)
+  where
+    i : ℕ
+    i = weight w q.label - 1 - q.place
+
+    go : (b : Bool)
+        → ((cond b (state_at (next triples (inverse q.label)) (weight w (inverse q.label) - 1 - i))
+          (state_at (previous triples (inverse q.label)) (weight w (previous triples (inverse q.label)) - 1 - i))).label ≡ next triples (inverse q.label))
+        ⊎ ((cond b (state_at (next triples (inverse q.label)) (weight w (inverse q.label) - 1 - i))
+          (state_at (previous triples (inverse q.label)) (weight w (previous triples (inverse q.label)) - 1 - i))).label ≡ previous triples (inverse q.label))
+    go true = inl refl
+    go false = inr refl
