@@ -61,6 +61,30 @@ place_of e f a b c d x =
           ]
     ]
 
+-- ---- the triangles apart from the two
+
+module _ (triples : List (List ℤ)) (e f a b c d : ℤ) (t : TriangleLaws triples) (s : Quadrilateral triples e f a b c d) where
+
+  twice_before : (x y : ℤ) → IsLabel triples x → next triples x ≡ y → x ≡ next triples (next triples y)
+  twice_before x y l is = sym (t.round x l) ∙ ap (λ (z : ℤ). next triples (next triples z)) is
+
+  pub next_apart : (x : ℤ) → IsLabel triples x → IsApartFrom e f a b c d x → IsApartFrom e f a b c d (next triples x)
+  next_apart x l q = record {
+    from_e = λ k. q.from_b (twice_before x e l k ∙ ap (next triples) s.after_e ∙ s.after_a);
+    from_a = λ k. q.from_e (twice_before x a l k ∙ ap (next triples) s.after_a ∙ s.after_b);
+    from_b = λ k. q.from_a (twice_before x b l k ∙ ap (next triples) s.after_b ∙ s.after_e);
+    from_f = λ k. q.from_d (twice_before x f l k ∙ ap (next triples) s.after_f ∙ s.after_c);
+    from_c = λ k. q.from_f (twice_before x c l k ∙ ap (next triples) s.after_c ∙ s.after_d);
+    from_d = λ k. q.from_c (twice_before x d l k ∙ ap (next triples) s.after_d ∙ s.after_f);
+  }
+
+  pub apart_off : (x : ℤ) → IsApartFrom e f a b c d x → edge_of x ≢ edge_of e
+  apart_off x q same =
+      elim (two_labels x e same) [
+        | inl k ↦ q.from_e k
+        | inr k ↦ q.from_f (k ∙ sym s.f_is)
+      ]
+
 -- ---- the pair
 
 -- (e,a,b) and (f,c,d) here, (e,d,a) and (f,b,c) there; all other triangles and numbers are the same
@@ -99,48 +123,27 @@ pair_turned here there w v e f a b c d h = record {
       ∙ h.sum ∙ omega arith;
 }
 
--- ---- apart from the two triangles
+-- ---- strands apart from the two triangles
 
 module _ (here there : List (List ℤ)) (w v : List ℕ) (e f a b c d : ℤ) (h : IsFlippedPair here there w v e f a b c d) where
 
-  -- x comes after the one before it
-  twice_before : (x t : ℤ) → IsLabel here x → next here x ≡ t → x ≡ next here (next here t)
-  twice_before x t l is = sym (h.triangles.round x l) ∙ ap (λ (y : ℤ). next here (next here y)) is
-
-  pub next_apart : (x : ℤ) → IsLabel here x → IsApartFrom e f a b c d x → IsApartFrom e f a b c d (next here x)
-  next_apart x l q = record {
-    from_e = λ k. q.from_b (twice_before x e l k ∙ ap (next here) s.after_e ∙ s.after_a);
-    from_a = λ k. q.from_e (twice_before x a l k ∙ ap (next here) s.after_a ∙ s.after_b);
-    from_b = λ k. q.from_a (twice_before x b l k ∙ ap (next here) s.after_b ∙ s.after_e);
-    from_f = λ k. q.from_d (twice_before x f l k ∙ ap (next here) s.after_f ∙ s.after_c);
-    from_c = λ k. q.from_f (twice_before x c l k ∙ ap (next here) s.after_c ∙ s.after_d);
-    from_d = λ k. q.from_c (twice_before x d l k ∙ ap (next here) s.after_d ∙ s.after_f);
-  }
-    where
-      s : Quadrilateral here e f a b c d
-      s = h.sides_here
-
-  pub apart_off : (x : ℤ) → IsApartFrom e f a b c d x → edge_of x ≢ edge_of e
-  apart_off x q same =
-      elim (two_labels x e same) [
-        | inl k ↦ q.from_e k
-        | inr k ↦ q.from_f (k ∙ sym h.sides_here.f_is)
-      ]
+  pub away : (x : ℤ) → IsLabel here x → IsApartFrom e f a b c d x → IsApartFrom e f a b c d (next here x)
+  away = next_apart here e f a b c d h.triangles h.sides_here
 
   pub apart_number : (x : ℤ) → IsApartFrom e f a b c d x → weight v x ≡ weight w x
-  apart_number x q = h.numbers x (apart_off x q)
+  apart_number x q = h.numbers x (apart_off here e f a b c d h.triangles h.sides_here x q)
 
   pub apart_previous : (x : ℤ) → IsLabel here x → IsApartFrom e f a b c d x → previous there x ≡ previous here x
   apart_previous x l q =
-      ap (next there) (h.others x l q) ∙ h.others (next here x) (h.triangles.label x l) (next_apart x l q)
+      ap (next there) (h.others x l q) ∙ h.others (next here x) (h.triangles.label x l) (away x l q)
 
   pub apart_corner : (x : ℤ) → IsLabel here x → IsApartFrom e f a b c d x → corner_count there v x ≡ corner_count here w x
   apart_corner x l q =
       ap (λ (y : ℤ). (weight v x + weight v y - weight v (previous there x)) / 2) (h.others x l q)
       ∙ ap (λ (z : ℤ). (weight v x + weight v y - weight v z) / 2) (apart_previous x l q)
       ∙ ap (λ (n : ℕ). (n + weight v y - weight v z) / 2) (apart_number x q)
-      ∙ ap (λ (n : ℕ). (weight w x + n - weight v z) / 2) (apart_number y (next_apart x l q))
-      ∙ ap (λ (n : ℕ). (weight w x + weight w y - n) / 2) (apart_number z (next_apart y (h.triangles.label x l) (next_apart x l q)))
+      ∙ ap (λ (n : ℕ). (weight w x + n - weight v z) / 2) (apart_number y (away x l q))
+      ∙ ap (λ (n : ℕ). (weight w x + weight w y - n) / 2) (apart_number z (away y (h.triangles.label x l) (away x l q)))
     where
       y : ℤ
       y = next here x

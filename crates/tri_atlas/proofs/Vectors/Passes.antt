@@ -118,10 +118,10 @@ module _ (here there : List (List ℤ)) (w v : List ℕ) (e f a b c d : ℤ) (h 
       lz = h.triangles.label (next here x) ly
 
       y_away : IsApartFrom e f a b c d (next here (inverse q.label))
-      y_away = next_apart here there w v e f a b c d h x lx away
+      y_away = next_apart here e f a b c d h.triangles h.sides_here x lx away
 
       z_away : IsApartFrom e f a b c d (previous here (inverse q.label))
-      z_away = next_apart here there w v e f a b c d h (next here x) ly y_away
+      z_away = next_apart here e f a b c d h.triangles h.sides_here (next here x) ly y_away
 
 -- ---- from one state off the edge to the next
 
@@ -176,7 +176,7 @@ passes_apart : (here there : List (List ℤ)) (w v : List ℕ) (e f a b c d : �
     → IsApartFrom e f a b c d (inverse q.label) → Passes here there w v n pre q (inverse q.label)
 passes_apart here there w v e f a b c d h pre plain n on_e q s off away =
     let same : strand_step there v q ≡ r = step_apart here there w v e f a b c d h q s.is_label (λ k. off (k ∙ on_e)) away in
-    let r_off : is_on n r ≡ false = ne_eqb (edge_of r.label) n (λ k. apart_off here there w v e f a b c d h r.label r_away (k ∙ sym on_e)) in
+    let r_off : is_on n r ≡ false = ne_eqb (edge_of r.label) n (λ k. apart_off here e f a b c d h.triangles h.sides_here r.label r_away (k ∙ sym on_e)) in
     agrees pre x r.label (past here w n r) (past there v n (strand_step there v q)) (crossed n r) (crossed n (strand_step there v q)) [] [] [] []
     (ap (λ (t : State). t.label) (past-off here w n r r_off))
     (ap (λ (t : State). (past there v n t).label) same ∙ ap (λ (t : State). t.label) (past-off there v n r r_off))
@@ -198,10 +198,10 @@ passes_apart here there w v e f a b c d h pre plain n on_e q s off away =
     lx = inverse_label here q.label s.is_label
 
     y_away : IsApartFrom e f a b c d (next here (inverse q.label))
-    y_away = next_apart here there w v e f a b c d h x lx away
+    y_away = next_apart here e f a b c d h.triangles h.sides_here x lx away
 
     z_away : IsApartFrom e f a b c d (previous here (inverse q.label))
-    z_away = next_apart here there w v e f a b c d h (next here x) (h.triangles.label x lx) y_away
+    z_away = next_apart here e f a b c d h.triangles h.sides_here (next here x) (h.triangles.label x lx) y_away
 
     r_away : IsApartFrom e f a b c d (strand_step here w q).label
     r_away =
