@@ -3,3 +3,4 @@ pub mod Exits
 pub mod Rows
 pub mod Pairs
 pub mod Passes
+pub mod Sides
