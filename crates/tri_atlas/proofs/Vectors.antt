@@ -4,3 +4,4 @@ pub mod Rows
 pub mod Pairs
 pub mod Passes
 pub mod Sides
+pub mod Multicurves
