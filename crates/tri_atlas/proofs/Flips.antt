@@ -44,7 +44,7 @@ edge_count-flipped triples e =
     (inverse e ∷ (previous triples e ∷ (next triples (inverse e) ∷ [])))
     ∙ length-set triples (triangle_of triples e) (e ∷ (previous triples (inverse e) ∷ (next triples e ∷ []))))
 
-flip_edges : (before target : List (List ℤ)) (e a b c d : ℤ) → IsFlip before target e a b c d → edge_count target ≡ edge_count before
+pub flip_edges : (before target : List (List ℤ)) (e a b c d : ℤ) → IsFlip before target e a b c d → edge_count target ≡ edge_count before
 flip_edges before target e a b c d h = ap edge_count h.result ∙ edge_count-flipped before e
 
 pub label_after_flip : (before target : List (List ℤ)) (e a b c d x : ℤ) → IsFlip before target e a b c d → IsLabel before x → IsLabel target x

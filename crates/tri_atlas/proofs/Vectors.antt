@@ -5,3 +5,5 @@ pub mod Pairs
 pub mod Passes
 pub mod Sides
 pub mod Multicurves
+pub mod Given
+pub mod Flipped
