@@ -7,3 +7,4 @@ pub mod Sides
 pub mod Multicurves
 pub mod Given
 pub mod Flipped
+pub mod Carried
