@@ -8,3 +8,5 @@ pub mod Multicurves
 pub mod Given
 pub mod Flipped
 pub mod Carried
+pub mod CarriedRuns
+pub mod CarriedDrawings

@@ -5,7 +5,7 @@
 -- The two triangulations, their vectors and what is put before letters enter by the properties of IsPassing alone, so
 -- that this serves flips and backward flips. Each state is taken by itself: a run may begin or end on the edge, where
 -- past leads on to the next state and crossed is the letter so passed.
-use Rattle.std.proofs.Common.{ℕ, ℤ, Bool, true, false, cond, List, [], ◌∷◌, ◌++◌, ◌≡◌, ◌≢◌, ◌⊎◌, inl, inr, refl, sym, ◌∙◌, ap, subst, append_assoc, map}
+use Rattle.std.proofs.Common.{ℕ, ℤ, Bool, true, false, cond, List, [], ◌∷◌, ◌++◌, ◌≡◌, ◌≢◌, inl, inr, refl, sym, ◌∙◌, ap, subst, append_assoc}
 use Rattle.std.specs.List.{flat_map}
 use Rattle.std.proofs.lemmas.Bool.{cases_Bool, eqb-true}
 use Rattle.std.proofs.lemmas.List.{append-nil, map-append}
@@ -16,7 +16,6 @@ use Rattle.ideal_tri.specs.Vectors.{weight}
 use Rattle.ideal_tri.specs.Strands.{State, IsStrand, strand_step, Runs, word_of}
 use Rattle.tri_atlas.proofs.Letters.{edge_of-inverse, reduce-reduce, reduce-left, reduce-right}
 use Rattle.tri_atlas.proofs.Vectors.Exits.{is_on, past, crossed, past-on, past-off, crossed-on, crossed-off}
-use Rattle.tri_atlas.proofs.Vectors.Rows.{Agrees}
 use Rattle.tri_atlas.proofs.Vectors.Passes.{Passes}
 
 -- strands here and there agree off edge n, and the letters of the edge between them change as pre says

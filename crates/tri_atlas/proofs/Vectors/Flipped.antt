@@ -1,14 +1,11 @@
 -- The numbers after a flip and after a backward flip.
-use Rattle.std.proofs.Common.{ℕ, ℤ, List, ◌≡◌, ◌≢◌, ◌≤◌, ◌<◌, ◌+◌, ◌-◌, max, inl, inr, refl, sym, ◌∙◌, ap, subst, arith, length, set, get_or, length-set}
-use Rattle.std.specs.Prelude.{slice_index}
-use Rattle.std.proofs.lemmas.Bool.{cases_eq}
+use Rattle.std.proofs.Common.{ℕ, ℤ, List, ◌≡◌, ◌≢◌, ◌≤◌, ◌<◌, ◌+◌, max, refl, sym, ◌∙◌, subst, arith, length, set}
 use Rattle.std.proofs.lemmas.List.{get_or-set_same, get_or-set_other}
-use Rattle.std.proofs.lemmas.Grind.{same_number_lists}
 use Rattle.ideal_tri.specs.Labels.{inverse, edge_of}
 use Rattle.ideal_tri.specs.Triangulations.{IsTriangulation, IsLabel, edge_count, next}
 use Rattle.ideal_tri.specs.Vectors.{IsMulticurve, weight, corner_count}
 use Rattle.tri_atlas.specs.Moves.{IsFlip}
-use Rattle.tri_atlas.specs.MovedVectors.{greater_sum, flipped_number}
+use Rattle.tri_atlas.specs.MovedVectors.{greater_sum}
 use Rattle.tri_atlas.proofs.Letters.{edge_of-inverse}
 use Rattle.tri_atlas.proofs.Flips.{flip_edges}
 use Rattle.tri_atlas.proofs.Vectors.Turns.{HasCorners}

@@ -1,6 +1,5 @@
 -- The vector after a flip is a multicurve's.
 use Rattle.std.proofs.Common.{ℕ, ℤ, List, [], ◌∷◌, ◌≡◌, ◌≢◌, ◌<◌, ◌≤◌, ◌+◌, ◌%◌, max, refl, sym, ◌∙◌, ap, subst, arith, length, get_or}
-use Rattle.std.specs.List.{All}
 use Rattle.std.proofs.lemmas.List.{append-nil, get_or_default}
 use Rattle.ideal_tri.specs.Labels.{edge_of}
 use Rattle.ideal_tri.specs.SurfaceLaws.{TriangleLaws}

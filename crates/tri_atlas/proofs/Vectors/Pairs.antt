@@ -1,16 +1,13 @@
 -- Two triangulations that differ by a flip, with vectors on them: apart from the two triangles at the edge, strands take
 -- the same steps.
-use Rattle.std.proofs.Common.{ℕ, ℤ, Bool, false, cond, leb, List, [], ◌∷◌, ◌++◌, ◌≡◌, ◌≢◌, ◌≤◌, ◌<◌, ◌+◌, ◌-◌, ◌/◌, ◌⊎◌, max, inl, inr, refl, sym, ◌∙◌, ap, subst, arith, ne_eqb}
+use Rattle.std.proofs.Common.{ℕ, ℤ, List, ◌≡◌, ◌≢◌, ◌+◌, ◌-◌, ◌/◌, max, inl, inr, sym, ◌∙◌, ap, arith}
 use Rattle.ideal_tri.specs.Labels.{inverse, edge_of}
-use Rattle.ideal_tri.specs.Words.{inverse_word, reduce}
 use Rattle.ideal_tri.specs.SurfaceLaws.{TriangleLaws}
 use Rattle.ideal_tri.specs.Triangulations.{IsLabel, edge_count, next, previous}
 use Rattle.ideal_tri.specs.Vectors.{weight, corner_count}
-use Rattle.ideal_tri.specs.Strands.{State, state_at, IsStrand, strand_step}
-use Rattle.tri_atlas.proofs.Letters.{two_labels, same_or_not, inverse-inverse, edge_of-inverse}
+use Rattle.tri_atlas.proofs.Letters.{two_labels, same_or_not, edge_of-inverse}
 use Rattle.tri_atlas.proofs.Vectors.Turns.{HasCorners, weight-inverse}
-use Rattle.tri_atlas.proofs.Vectors.Exits.{is_on, past, crossed, past-off, crossed-off, Quadrilateral, turned, Sums, sums_of, exits_first, exits_second}
-use Rattle.tri_atlas.proofs.Vectors.Rows.{Numbers, IsBalanced, Prefixes, Prefixes-turned, Agrees, from_a, from_b}
+use Rattle.tri_atlas.proofs.Vectors.Exits.{Quadrilateral, turned}
 
 -- ---- the sides of the two triangles, and all other labels
 

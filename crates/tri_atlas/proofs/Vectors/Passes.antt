@@ -1,12 +1,11 @@
 -- Off the flipped edge a strand goes from state to state as before, and the letters of the edge that it crosses between
 -- two such states change as the map of the flip says.
-use Rattle.std.proofs.Common.{ℕ, ℤ, Bool, false, cond, leb, List, [], ◌++◌, ◌≡◌, ◌≢◌, ◌<◌, ◌+◌, ◌-◌, inl, inr, refl, sym, ◌∙◌, ap, subst, arith, ne_eqb}
+use Rattle.std.proofs.Common.{ℕ, ℤ, false, cond, leb, List, [], ◌≡◌, ◌≢◌, ◌<◌, ◌+◌, ◌-◌, inl, inr, refl, sym, ◌∙◌, ap, subst, arith, ne_eqb}
 use Rattle.ideal_tri.specs.Labels.{inverse, edge_of}
-use Rattle.ideal_tri.specs.Words.{inverse_word, reduce}
 use Rattle.ideal_tri.specs.Triangulations.{IsLabel, next, previous}
 use Rattle.ideal_tri.specs.Vectors.{weight, corner_count}
 use Rattle.ideal_tri.specs.Strands.{State, state_at, IsStrand, strand_step}
-use Rattle.tri_atlas.proofs.Letters.{inverse-inverse, edge_of-inverse}
+use Rattle.tri_atlas.proofs.Letters.{edge_of-inverse}
 use Rattle.tri_atlas.proofs.Flips.{inverse_label}
 use Rattle.tri_atlas.proofs.Vectors.Turns.{weight-inverse, step_label}
 use Rattle.tri_atlas.proofs.Vectors.Exits.{FirstExit, is_on, past, crossed, past-off, crossed-off, Quadrilateral, turned, Sums, sums_of, exits_first, exits_second}

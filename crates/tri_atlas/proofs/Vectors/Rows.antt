@@ -9,7 +9,7 @@
 --
 -- Each pair of lines that can hold together ends at one side and place, by the corner sums and E + F = max (A + C) (B + D).
 -- The side b has a table like this, and the other two sides are those of the other label of the edge.
-use Rattle.std.proofs.Common.{ℕ, ℤ, Bool, List, [], ◌∷◌, ◌++◌, ◌≡◌, ◌≤◌, ◌<◌, ◌+◌, max, refl, sym, ◌∙◌, ap, arith, cond}
+use Rattle.std.proofs.Common.{ℕ, ℤ, Bool, List, [], ◌∷◌, ◌++◌, ◌≡◌, ◌+◌, max, refl, sym, ◌∙◌, ap, arith, cond}
 use Rattle.ideal_tri.specs.Labels.{inverse}
 use Rattle.ideal_tri.specs.Words.{inverse_word, push, reduce}
 use Rattle.ideal_tri.specs.Strands.{State, state_at}

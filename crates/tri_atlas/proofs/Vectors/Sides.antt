@@ -1,10 +1,10 @@
 -- The two triangles at the edge of a flip, before it and after it.
-use Rattle.std.proofs.Common.{ℕ, ℤ, List, [], ◌∷◌, ◌≡◌, ◌≢◌, inl, inr, refl, sym, ◌∙◌, ap, subst}
+use Rattle.std.proofs.Common.{ℤ, List, ◌≡◌, ◌≢◌, inl, inr, refl, sym, ◌∙◌, ap, subst}
 use Rattle.ideal_tri.specs.Labels.{inverse, edge_of}
 use Rattle.ideal_tri.specs.SurfaceLaws.{TriangleLaws}
-use Rattle.ideal_tri.specs.FlipLaws.{FlipLaws, IsOutside}
+use Rattle.ideal_tri.specs.FlipLaws.{FlipLaws}
 use Rattle.ideal_tri.specs.Flips.{flipped}
-use Rattle.ideal_tri.specs.Triangulations.{IsLabel, edge_count, triangle_of, next, previous}
+use Rattle.ideal_tri.specs.Triangulations.{IsLabel, triangle_of, next}
 use Rattle.tri_atlas.specs.Moves.{IsFlip}
 use Rattle.tri_atlas.proofs.Letters.{inverse-inverse, edge_of-inverse, two_labels}
 use Rattle.tri_atlas.proofs.Flips.{inverse_label, label_after_flip}
