@@ -10,3 +10,4 @@ pub mod Flipped
 pub mod Carried
 pub mod CarriedRuns
 pub mod CarriedDrawings
+pub mod Passing

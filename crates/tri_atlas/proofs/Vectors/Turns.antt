@@ -5,8 +5,10 @@ use Rattle.std.proofs.lemmas.Bool.{cases_lt, le-leb, lt-leb}
 use Rattle.ideal_tri.specs.Labels.{inverse}
 use Rattle.ideal_tri.specs.Triangulations.{IsLabel, next, previous}
 use Rattle.ideal_tri.specs.Vectors.{weight, corner_count}
-use Rattle.ideal_tri.specs.Strands.{State, state_at, strand_step}
+use Rattle.ideal_tri.specs.Strands.{State, state_at, IsStrand, strand_step}
+use Rattle.ideal_tri.specs.SurfaceLaws.{TriangleLaws}
 use Rattle.tri_atlas.proofs.Letters.{edge_of-inverse}
+use Rattle.tri_atlas.proofs.Flips.{inverse_label}
 
 pub weight-inverse : (w : List ℕ) (x : ℤ) → weight w (inverse x) ≡ weight w x
 weight-inverse w x = ap (slice_index w) (edge_of-inverse x)
@@ -91,3 +93,39 @@ step_label triples w q = go (leb (corner_count triples w (previous triples (inve
           (state_at (previous triples (inverse q.label)) (weight w (previous triples (inverse q.label)) - 1 - i))).label ≡ previous triples (inverse q.label))
     go true = inl refl
     go false = inr refl
+
+-- the step of a strand is a strand
+pub step_valid : (triples : List (List ℤ)) (w : List ℕ) (q : State) → HasCorners triples w → TriangleLaws triples → IsStrand triples w q
+    → IsStrand triples w (strand_step triples w q)
+step_valid triples w q h laws s =
+    elim (step_turns triples w q i h lx lz (let within : q.place < weight w q.label = s.within in omega arith)) [
+      | on above label place ↦
+          record {
+            is_label = subst (IsLabel triples) (sym label) ly;
+            within = subst (λ (y : ℤ). (strand_step triples w q).place < weight w y) (sym label)
+                (omega (arith, h.sums x lx, weight-inverse w q.label, h.sums y ly, ap (corner_count triples w) (laws.round x lx)));
+          }
+      | back below label place ↦
+          record {
+            is_label = subst (IsLabel triples) (sym label) lz;
+            within = subst (λ (y : ℤ). (strand_step triples w q).place < weight w y) (sym label) (omega arith);
+          }
+    ]
+  where
+    x : ℤ
+    x = inverse q.label
+
+    y : ℤ
+    y = next triples (inverse q.label)
+
+    i : ℕ
+    i = weight w q.label - 1 - q.place
+
+    lx : IsLabel triples (inverse q.label)
+    lx = inverse_label triples q.label s.is_label
+
+    ly : IsLabel triples (next triples (inverse q.label))
+    ly = laws.label x lx
+
+    lz : IsLabel triples (previous triples (inverse q.label))
+    lz = laws.label y ly
