@@ -11,3 +11,4 @@ pub mod Carried
 pub mod CarriedRuns
 pub mod CarriedDrawings
 pub mod Passing
+pub mod FlipLaws
