@@ -21,7 +21,7 @@ image_of-inverse images (pos n) = refl
 image_of-inverse images (negsuc n) = sym (inverse-inverse (get_or images n (pos 0)))
 
 -- a label and its inverse have images of one edge
-edge_of-image_of : (images : List ℤ) (x : ℤ) → edge_of (image_of images x) ≡ edge_of (get_or images (edge_of x) (pos 0))
+pub edge_of-image_of : (images : List ℤ) (x : ℤ) → edge_of (image_of images x) ≡ edge_of (get_or images (edge_of x) (pos 0))
 edge_of-image_of images (pos n) = refl
 edge_of-image_of images (negsuc n) = edge_of-inverse (get_or images n (pos 0))
 
@@ -103,7 +103,7 @@ bijection_of before target images h = record {
 }
 
 -- a relabelling is between triangulations with as many edges
-same_edges : (before target : List (List ℤ)) (images : List ℤ) → IsRelabelling before target images → edge_count before ≡ edge_count target
+pub same_edges : (before target : List (List ℤ)) (images : List ℤ) → IsRelabelling before target images → edge_count before ≡ edge_count target
 same_edges before target images h = sym h.one_per_edge ∙ (bijection_of before target images h).long
 
 pub label_of_image : (before target : List (List ℤ)) (images : List ℤ) (x : ℤ) → IsRelabelling before target images → IsLabel before x
@@ -132,7 +132,7 @@ image_of-origin n images y h l =
     let (x, below, e) = has_origin n images y h l in
     ap (λ (z : ℤ). image_of images (origin_of images z)) (sym e) ∙ ap (image_of images) (origin_undoes n images x h below) ∙ e
 
-origin_below : (n : ℕ) (images : List ℤ) (y : ℤ) → IsBijection n images → edge_of y < n → edge_of (origin_of images y) < n
+pub origin_below : (n : ℕ) (images : List ℤ) (y : ℤ) → IsBijection n images → edge_of y < n → edge_of (origin_of images y) < n
 origin_below n images y h l =
     let (x, below, e) = has_origin n images y h l in
     subst (λ (z : ℤ). edge_of z < n) (sym (ap (origin_of images) (sym e) ∙ origin_undoes n images x h below)) below
@@ -214,11 +214,11 @@ Rotation-map f u v (a, b, e, g) = (
 )
 
 -- the images of the sides of a triangle follow each other
-record ImagesFollow (before target : List (List ℤ)) (images : List ℤ) (x : ℤ) : Type 0 where
-  second : next target (image_of images x) ≡ image_of images (next before x)
-  third : next target (image_of images (next before x)) ≡ image_of images (previous before x)
+pub record ImagesFollow (before target : List (List ℤ)) (images : List ℤ) (x : ℤ) : Type 0 where
+  pub second : next target (image_of images x) ≡ image_of images (next before x)
+  pub third : next target (image_of images (next before x)) ≡ image_of images (previous before x)
 
-images_follow : TripleLaws → (before target : List (List ℤ)) (images : List ℤ) (x : ℤ) → IsTriangulation before → IsTriangulation target
+pub images_follow : TripleLaws → (before target : List (List ℤ)) (images : List ℤ) (x : ℤ) → IsTriangulation before → IsTriangulation target
     → IsRelabelling before target images → IsLabel before x → ImagesFollow before target images x
 images_follow q before target images x p t h l =
     let (k, u, below, at, turn) = q.at_label before x p l in

@@ -12,3 +12,4 @@ pub mod CarriedRuns
 pub mod CarriedDrawings
 pub mod Passing
 pub mod FlipLaws
+pub mod Relabelled

@@ -12,7 +12,7 @@ use Rattle.tri_atlas.proofs.Vectors.Turns.{HasCorners}
 use Rattle.tri_atlas.proofs.Vectors.Exits.{Quadrilateral, turned, Sums, sums_of}
 use Rattle.tri_atlas.proofs.Vectors.Pairs.{IsApartFrom, IsFlippedPair, same_number}
 use Rattle.tri_atlas.proofs.Vectors.Sides.{sides_before, sides_after, others_stay}
-use Rattle.tri_atlas.proofs.Vectors.Multicurves.{IsGood, IsSummed, edge_below, first_good, second_good, multicurve_moved}
+use Rattle.tri_atlas.proofs.Vectors.Multicurves.{IsGood-same, IsSummed, edge_below, first_good, second_good, multicurve_moved}
 use Rattle.tri_atlas.proofs.Vectors.Given.{Given, corners_of}
 
 -- ---- the numbers of a quadrilateral
@@ -31,10 +31,6 @@ summed triples w e f a b c d h s =
       c_second = second.side_a;
       d_second = second.side_b;
     }
-
-IsGood-same : (x y z x' y' z' : ℕ) → x ≡ x' → y ≡ y' → z ≡ z' → IsGood x y z → IsGood x' y' z'
-IsGood-same x y z x' y' z' e f g h =
-    subst (IsGood x' y') g (subst (λ (n : ℕ). IsGood x' n z) f (subst (λ (n : ℕ). IsGood n y z) e h))
 
 -- ---- a vector with another number at one edge
 

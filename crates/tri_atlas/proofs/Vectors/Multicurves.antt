@@ -28,6 +28,10 @@ IsGood-turned x y z h = record {
   short_z = omega (arith, h.short_x);
 }
 
+pub IsGood-same : (x y z x' y' z' : ℕ) → x ≡ x' → y ≡ y' → z ≡ z' → IsGood x y z → IsGood x' y' z'
+IsGood-same x y z x' y' z' e f g h =
+    subst (IsGood x' y') g (subst (λ (n : ℕ). IsGood x' n z) f (subst (λ (n : ℕ). IsGood n y z) e h))
+
 -- sums of corners
 pub IsGood-corners : (x y z p q r : ℕ) → x ≡ p + r → y ≡ q + p → z ≡ r + q → IsGood x y z
 IsGood-corners x y z p q r is_x is_y is_z = record {
@@ -68,7 +72,7 @@ second_good E F A B C D ke ka kb kf kc kd h sum = record {
 
 -- ---- a vector whose numbers are good at each label
 
-pub IsGoodAt : List (List ℤ) → List ℕ → ℤ → Type 0
+abbrev pub IsGoodAt : List (List ℤ) → List ℕ → ℤ → Type 0
 IsGoodAt triples v x = IsGood (weight v x) (weight v (next triples x)) (weight v (previous triples x))
 
 -- a triangle that stands in the list is one of its triangles
@@ -77,7 +81,6 @@ stands triples k d below = (k, get_or triples k d, below, get_or_default triples
 
 pub multicurve_of : TripleLaws → (triples : List (List ℤ)) (v : List ℕ) → IsTriangulation triples → length v ≡ edge_count triples
     → ((x : ℤ) → IsLabel triples x → IsGoodAt triples v x) → IsMulticurve triples v
-unfolding IsGoodAt
 multicurve_of q triples v t long good = record {
   one_per_edge = long;
   even = λ k d below. let (x, y, z, is, g) = at k d below in subst (IsEven v) (sym is) g.even;
@@ -92,26 +95,13 @@ multicurve_of q triples v t long good = record {
         let first = subst (λ (u : ℤ). IsGood (weight v x) (weight v u) (weight v (next triples u))) xy (good x label) in
         (x, y, z, is, subst (λ (u : ℤ). IsGood (weight v x) (weight v y) (weight v u)) yz first)
 
--- ---- a vector with the same numbers apart from one edge, on a triangulation with the same triangles apart from two
-
--- a label and the two after it are good where one of the three is
-good_from : (triples : List (List ℤ)) (v : List ℕ) (x y z : ℤ) → next triples x ≡ y → next triples y ≡ z → IsGood (weight v x) (weight v y) (weight v z)
-    → IsGoodAt triples v x
-unfolding IsGoodAt
-good_from triples v x y z xy yz h =
-    subst (λ (u : ℤ). IsGood (weight v x) (weight v u) (weight v (next triples u))) (sym xy)
-    (subst (λ (u : ℤ). IsGood (weight v x) (weight v y) (weight v u)) (sym yz) h)
-
-good_apart : (triples others : List (List ℤ)) (u v : List ℕ) (e f a b c d x : ℤ) → TriangleLaws triples → Quadrilateral triples e f a b c d
-    → TriangleLaws others → edge_count others ≡ edge_count triples → HasCorners others u
-    → ((y : ℤ) → IsLabel triples y → IsApartFrom e f a b c d y → next triples y ≡ next others y)
-    → ((y : ℤ) → edge_of y ≢ edge_of e → weight v y ≡ weight u y) → IsLabel triples x → IsApartFrom e f a b c d x → IsGoodAt triples v x
-unfolding IsGoodAt
-good_apart triples others u v e f a b c d x t s o edges h same numbers l q =
-    IsGood-corners (weight v x) (weight v y) (weight v z) (corner_count others u x) (corner_count others u y) (corner_count others u z)
-    (number x q ∙ sum x l ∙ ap (λ (p : ℤ). corner_count others u x + corner_count others u p) z_before)
-    (number y y_away ∙ sum y ly ∙ ap (λ (p : ℤ). corner_count others u y + corner_count others u p) x_before)
-    (number z z_away ∙ sum z lz ∙ ap (λ (p : ℤ). corner_count others u z + corner_count others u p) y_before)
+-- the numbers of a multicurve are good
+pub good_at : (triples : List (List ℤ)) (w : List ℕ) (x : ℤ) → TriangleLaws triples → HasCorners triples w → IsLabel triples x → IsGoodAt triples w x
+good_at triples w x t h l =
+    IsGood-corners (weight w x) (weight w y) (weight w z) (corner_count triples w x) (corner_count triples w y) (corner_count triples w z)
+    (h.sums x l)
+    (h.sums y ly ∙ ap (λ (p : ℤ). corner_count triples w y + corner_count triples w p) (t.round x l))
+    (h.sums z (t.label y ly) ∙ ap (λ (p : ℤ). corner_count triples w z + corner_count triples w (next triples p)) (t.round x l))
   where
     y : ℤ
     y = next triples x
@@ -122,8 +112,31 @@ good_apart triples others u v e f a b c d x t s o edges h same numbers l q =
     ly : IsLabel triples (next triples x)
     ly = t.label x l
 
-    lz : IsLabel triples (previous triples x)
-    lz = t.label y ly
+-- ---- a vector with the same numbers apart from one edge, on a triangulation with the same triangles apart from two
+
+-- a label and the two after it are good where one of the three is
+good_from : (triples : List (List ℤ)) (v : List ℕ) (x y z : ℤ) → next triples x ≡ y → next triples y ≡ z → IsGood (weight v x) (weight v y) (weight v z)
+    → IsGoodAt triples v x
+good_from triples v x y z xy yz h =
+    subst (λ (u : ℤ). IsGood (weight v x) (weight v u) (weight v (next triples u))) (sym xy)
+    (subst (λ (u : ℤ). IsGood (weight v x) (weight v y) (weight v u)) (sym yz) h)
+
+good_apart : (triples others : List (List ℤ)) (u v : List ℕ) (e f a b c d x : ℤ) → TriangleLaws triples → Quadrilateral triples e f a b c d
+    → TriangleLaws others → edge_count others ≡ edge_count triples → HasCorners others u
+    → ((y : ℤ) → IsLabel triples y → IsApartFrom e f a b c d y → next triples y ≡ next others y)
+    → ((y : ℤ) → edge_of y ≢ edge_of e → weight v y ≡ weight u y) → IsLabel triples x → IsApartFrom e f a b c d x → IsGoodAt triples v x
+good_apart triples others u v e f a b c d x t s o edges h same numbers l q =
+    IsGood-same _ _ _ _ _ _ (sym (number x q)) (ap (weight u) (sym (same x l q)) ∙ sym (number y y_away)) (ap (weight u) (sym back) ∙ sym (number z z_away))
+    (good_at others u x o h (subst (λ (n : ℕ). edge_of x < n) (sym edges) l))
+  where
+    y : ℤ
+    y = next triples x
+
+    z : ℤ
+    z = previous triples x
+
+    ly : IsLabel triples (next triples x)
+    ly = t.label x l
 
     y_away : IsApartFrom e f a b c d (next triples x)
     y_away = next_apart triples e f a b c d t s x l q
@@ -134,21 +147,8 @@ good_apart triples others u v e f a b c d x t s o edges h same numbers l q =
     number : (p : ℤ) → IsApartFrom e f a b c d p → weight v p ≡ weight u p
     number p away = numbers p (apart_off triples e f a b c d t s p away)
 
-    sum : (p : ℤ) → IsLabel triples p → weight u p ≡ corner_count others u p + corner_count others u (previous others p)
-    sum p lp = h.sums p (subst (λ (n : ℕ). edge_of p < n) (sym edges) lp)
-
-    back : (p : ℤ) → IsLabel triples p → IsApartFrom e f a b c d p → previous others p ≡ previous triples p
-    back p lp away =
-        sym (same (next triples p) (t.label p lp) (next_apart triples e f a b c d t s p lp away) ∙ ap (next others) (same p lp away))
-
-    z_before : previous others x ≡ z
-    z_before = back x l q
-
-    x_before : previous others y ≡ x
-    x_before = back y ly y_away ∙ t.round x l
-
-    y_before : previous others z ≡ y
-    y_before = back z lz z_away ∙ ap (next triples) (t.round x l)
+    back : previous triples x ≡ previous others x
+    back = same y ly y_away ∙ ap (next others) (same x l q)
 
 pub multicurve_moved : TripleLaws → (triples others : List (List ℤ)) (u v : List ℕ) (e f a b c d : ℤ) → IsTriangulation triples → TriangleLaws triples
     → Quadrilateral triples e f a b c d → TriangleLaws others → edge_count others ≡ edge_count triples → HasCorners others u
