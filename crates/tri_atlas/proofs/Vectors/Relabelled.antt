@@ -85,3 +85,73 @@ module _ (g : Given) (before target : List (List ℤ)) (images : List ℤ) (p : 
 
   pub relabel_multicurve : IsMulticurve target moved_vector
   relabel_multicurve = multicurve_of g.triples target moved_vector t (length-moved before target images w h) good
+
+  -- ---- strands
+
+  corner : (x : ℤ) → IsLabel before x → corner_count target moved_vector (image_of images x) ≡ corner_count before w x
+  corner x l =
+      ap (λ (b : ℤ). (weight moved_vector (image_of images x) + weight moved_vector b - weight moved_vector (previous target (image_of images x))) / 2) (follow x l)
+      ∙ ap (λ (c : ℤ). (weight moved_vector (image_of images x) + weight moved_vector (image_of images y) - weight moved_vector c) / 2) (follow_back x l)
+      ∙ ap (λ (n : ℕ). (n + weight moved_vector (image_of images y) - weight moved_vector (image_of images z)) / 2) (number x l)
+      ∙ ap (λ (n : ℕ). (weight w x + n - weight moved_vector (image_of images z)) / 2) (number y ly)
+      ∙ ap (λ (n : ℕ). (weight w x + weight w y - n) / 2) (number z (next_label y ly))
+    where
+      y : ℤ
+      y = next before x
+
+      z : ℤ
+      z = previous before x
+
+      ly : IsLabel before (next before x)
+      ly = next_label x l
+
+  -- the place at the image of the side
+  abbrev pub moved_state : State → State
+  moved_state q = state_at (image_of images q.label) q.place
+
+  turned_state : (b : Bool) (y z : ℤ) (i j : ℕ) → cond b (state_at (image_of images y) i) (state_at (image_of images z) j) ≡ moved_state (cond b (state_at y i) (state_at z j))
+  turned_state true y z i j = refl
+  turned_state false y z i j = refl
+
+  pub step_moved : (q : State) → IsLabel before q.label → strand_step target moved_vector (moved_state q) ≡ moved_state (strand_step before w q)
+  step_moved q l =
+      ap (λ (n : ℕ). turn (inverse (image_of images q.label)) (n - 1 - q.place)) (number q.label l)
+      ∙ ap (λ (b : ℤ). turn b i) (sym (image_of-inverse images q.label))
+      ∙ ap (λ (b : ℤ). part b (previous target (image_of images x)) (weight moved_vector (image_of images x)) (weight moved_vector (previous target (image_of images x))) (corner_count target moved_vector (previous target (image_of images x)))) (follow x lx)
+      ∙ ap (λ (c : ℤ). part (image_of images y) c (weight moved_vector (image_of images x)) (weight moved_vector c) (corner_count target moved_vector c)) (follow_back x lx)
+      ∙ ap (λ (n : ℕ). part (image_of images y) (image_of images z) n (weight moved_vector (image_of images z)) (corner_count target moved_vector (image_of images z))) (number x lx)
+      ∙ ap (λ (n : ℕ). part (image_of images y) (image_of images z) (weight w x) n (corner_count target moved_vector (image_of images z))) (number z lz)
+      ∙ ap (λ (n : ℕ). part (image_of images y) (image_of images z) (weight w x) (weight w z) n) (corner z lz)
+      ∙ turned_state (leb (corner_count before w z) i) y z (weight w x - 1 - i) (weight w z - 1 - i)
+    where
+      x : ℤ
+      x = inverse q.label
+
+      y : ℤ
+      y = next before (inverse q.label)
+
+      z : ℤ
+      z = previous before (inverse q.label)
+
+      i : ℕ
+      i = weight w q.label - 1 - q.place
+
+      lx : IsLabel before (inverse q.label)
+      lx = inverse_label before q.label l
+
+      lz : IsLabel before (previous before (inverse q.label))
+      lz = next_label y (next_label x lx)
+
+      part : ℤ → ℤ → ℕ → ℕ → ℕ → State
+      part b c n k m = cond (leb m i) (state_at b (n - 1 - i)) (state_at c (k - 1 - i))
+
+      turn : ℤ → ℕ → State
+      turn b j =
+          cond (leb (corner_count target moved_vector (previous target b)) j) (state_at (next target b) (weight moved_vector b - 1 - j))
+          (state_at (previous target b) (weight moved_vector (previous target b) - 1 - j))
+
+  pub valid_moved : (q : State) → IsStrand before w q → IsStrand target moved_vector (moved_state q)
+  valid_moved q s = record {
+    is_label = label_of_image before target images q.label h s.is_label;
+    within = subst (λ (n : ℕ). q.place < n) (sym (number q.label s.is_label)) s.within;
+  }
