@@ -13,3 +13,4 @@ pub mod CarriedDrawings
 pub mod Passing
 pub mod FlipLaws
 pub mod Relabelled
+pub mod RelabelledDrawings
