@@ -14,3 +14,4 @@ pub mod Passing
 pub mod FlipLaws
 pub mod Relabelled
 pub mod RelabelledDrawings
+pub mod Along
