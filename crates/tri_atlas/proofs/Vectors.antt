@@ -15,3 +15,5 @@ pub mod FlipLaws
 pub mod Relabelled
 pub mod RelabelledDrawings
 pub mod Along
+pub mod Entries
+pub mod Overflow

@@ -30,7 +30,7 @@ moved_laws g before target (flip e a b c d) w p t h m = flip_laws g before targe
 moved_laws g before target (unflip e a b c d) w p t h m = unflip_laws g target before e a b c d t p h w m
 moved_laws g before target (relabel images) w p t h m = relabel_laws g before target images p t h w m
 
-move_edges : (before target : List (List ℤ)) (m : Move) → IsMove before target m → edge_count target ≡ edge_count before
+pub move_edges : (before target : List (List ℤ)) (m : Move) → IsMove before target m → edge_count target ≡ edge_count before
 move_edges before target (flip e a b c d) h = flip_edges before target e a b c d h
 move_edges before target (unflip e a b c d) h = sym (flip_edges target before e a b c d h)
 move_edges before target (relabel images) h = sym (same_edges before target images h)
