@@ -17,3 +17,4 @@ pub mod RelabelledDrawings
 pub mod Along
 pub mod Entries
 pub mod Overflow
+pub mod Laws
