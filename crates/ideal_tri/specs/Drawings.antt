@@ -1,5 +1,5 @@
 -- The drawing of a vector whose curves begin at their least strands and stand in rising order.
-use Rattle.std.specs.Prelude.{◌≡◌, ◌≤◌, ◌+◌, ◌-◌, ◌*◌, ℕ, zero, suc, ℤ, pos, negsuc, List, [], ◌∷◌, ◌++◌, map, filter, sum, take, slice_index, Bool, nat_le, All}
+use Rattle.std.specs.Prelude.{◌≡◌, ◌≤◌, ◌+◌, ◌-◌, ◌*◌, ℕ, zero, suc, ℤ, pos, negsuc, List, [], ◌∷◌, ◌++◌, length, map, filter, sum, take, slice_index, Bool, nat_le, All}
 use Rattle.std.specs.List.{range_with_len, list_all, before_first}
 use Rattle.std.specs.List.Sorted.{IsStrictlyIncreasing}
 use Rattle.ideal_tri.specs.Labels.{edge_of}
@@ -27,26 +27,32 @@ strands w = strands_from 0 w
 
 -- ---- the curve through a strand
 
--- so many states from q on
-abbrev pub orbit : List (List ℤ) → List ℕ → ℕ → State → List State
-orbit triples w zero q = []
-orbit triples w (suc n) q = q ∷ orbit triples w n (strand_step triples w q)
+-- so many values from x on, each the step of the one before
+abbrev pub orbit : {A : Type 0} → (A → A) → ℕ → A → List A
+orbit step zero x = []
+orbit step (suc n) x = x ∷ orbit step n (step x)
 
 -- from q on until it comes back: there are no more states than two for each strand
 abbrev pub curve_from : List (List ℤ) → List ℕ → State → List State
-curve_from triples w q = q ∷ before_first (same_state q) (orbit triples w (2 * sum w) (strand_step triples w q))
+curve_from triples w q =
+    let step : State → State = strand_step triples w in
+    q ∷ before_first (same_state q) (orbit step (2 * length (strands w)) (step q))
 
 -- no strand of the run has a lesser number than q
 abbrev pub is_least_of : List ℕ → State → List State → Bool
 is_least_of w q run = list_all (λ p. nat_le (strand_number w q) (strand_number w p)) run
 
--- the strands that are the least of their curves
-abbrev pub first_strands : List (List ℤ) → List ℕ → List State
-first_strands triples w = filter (λ q. is_least_of w q (curve_from triples w q)) (strands w)
+-- those of the strands that are the least of their curves
+abbrev pub least_among : List (List ℤ) → List ℕ → List State → List State
+least_among triples w qs = filter (λ q. is_least_of w q (curve_from triples w q)) qs
+
+-- the curves from those on
+abbrev pub curves_among : List (List ℤ) → List ℕ → List State → List (List State)
+curves_among triples w qs = map (curve_from triples w) (least_among triples w qs)
 
 -- the curves of a vector, each from its least strand on
 abbrev pub draw : List (List ℤ) → List ℕ → List (List State)
-draw triples w = map (curve_from triples w) (first_strands triples w)
+draw triples w = curves_among triples w (strands w)
 
 -- ---- the two properties that fix it
 

@@ -11,10 +11,13 @@ pub mod Peripheral
 pub mod WordLaws
 pub mod Drawings
 pub mod DrawingLaws
+pub mod StrandLaws
 pub mod SurfaceLaws
 pub mod Relabellings
 pub mod Flips
 pub mod FlipLaws
 pub mod Vertices
 pub mod VertexLaws
+pub mod PeripheralParts
+pub mod CornerLaws
 pub mod TripleLaws

@@ -18,7 +18,10 @@ mod tri;
 mod vertex;
 
 pub use label::Label;
-pub use laws::{flip_laws, surface_laws, triple_laws, vertex_laws, word_laws};
+pub use laws::{
+    corner_laws, drawing_laws, flip_laws, same_curves_laws, strand_laws, surface_laws, triple_laws,
+    vertex_laws, word_laws,
+};
 pub use memory::Memory;
 pub use tri::{Tri, TriError};
 pub use vertex::VertexId;
