@@ -11,6 +11,7 @@
 
 mod arena_laws;
 mod atlas;
+mod curve_laws;
 mod handles;
 mod laws;
 mod path;
@@ -20,6 +21,7 @@ mod tests;
 
 pub use arena_laws::atlas_laws;
 pub use atlas::Atlas;
+pub use curve_laws::vector_laws;
 pub use handles::{EdgeId, MoveId, TriId};
 pub use laws::map_laws;
 pub use path::Path;

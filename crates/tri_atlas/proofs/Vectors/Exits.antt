@@ -4,7 +4,7 @@ use Rattle.ideal_tri.specs.Labels.{inverse, edge_of}
 use Rattle.ideal_tri.specs.Triangulations.{IsLabel, next, previous}
 use Rattle.ideal_tri.specs.Vectors.{weight, corner_count}
 use Rattle.ideal_tri.specs.Strands.{State, strand_step}
-use Rattle.tri_atlas.proofs.Vectors.Turns.{HasCorners, Turns, on, back, turns_at, weight-inverse}
+use Rattle.tri_atlas.proofs.Vectors.Turns.{HasCornerSums, Turns, on, back, turns_at, weight-inverse}
 
 -- ---- states on one edge
 
@@ -93,7 +93,7 @@ before_a triples e f a b c d h = ap (next triples) h.after_a ∙ h.after_b
 before_b : (triples : List (List ℤ)) (e f a b c d : ℤ) → Quadrilateral triples e f a b c d → previous triples b ≡ a
 before_b triples e f a b c d h = ap (next triples) h.after_b ∙ h.after_e
 
-pub sums_of : (triples : List (List ℤ)) (w : List ℕ) (e f a b c d : ℤ) → HasCorners triples w → Quadrilateral triples e f a b c d → Sums triples w e a b
+pub sums_of : (triples : List (List ℤ)) (w : List ℕ) (e f a b c d : ℤ) → HasCornerSums triples w → Quadrilateral triples e f a b c d → Sums triples w e a b
 sums_of triples w e f a b c d k h = record {
   side_e = k.sums e h.label_e ∙ ap (λ (x : ℤ). corner_count triples w e + corner_count triples w x) (before_e triples e f a b c d h);
   side_a = k.sums a h.label_a ∙ ap (λ (x : ℤ). corner_count triples w a + corner_count triples w x) (before_a triples e f a b c d h);
@@ -119,7 +119,7 @@ off_edge n r x is other = ne_eqb (edge_of r.label) n (λ e. other (sym (ap edge_
 beyond : (w : List ℕ) (q : State) (x : ℤ) → inverse q.label ≡ x → weight w q.label ≡ weight w x
 beyond w q x at = sym (weight-inverse w q.label) ∙ ap (weight w) at
 
-pub exits_first : (triples : List (List ℤ)) (w : List ℕ) (e f a b c d : ℤ) (q : State) (i : ℕ) → HasCorners triples w → Quadrilateral triples e f a b c d
+pub exits_first : (triples : List (List ℤ)) (w : List ℕ) (e f a b c d : ℤ) (q : State) (i : ℕ) → HasCornerSums triples w → Quadrilateral triples e f a b c d
     → inverse q.label ≡ a → q.place + i + 1 ≡ weight w a
     → FirstExit (corner_count triples w e) (corner_count triples w d) (weight w a) (weight w e) (weight w d) i e b c d
       (past triples w (edge_of e) (strand_step triples w q)) (crossed (edge_of e) (strand_step triples w q))
@@ -164,7 +164,7 @@ pub data SecondExit (k l A B E D i : ℕ) (a c d e : ℤ) (X : State) (letters :
   across_d : k ≤ i → (j : ℕ) → j + B ≡ i + E → j < l → X.label ≡ d → j + X.place + 1 ≡ D → letters ≡ e ∷ []
       → SecondExit k l A B E D i a c d e X letters
 
-pub exits_second : (triples : List (List ℤ)) (w : List ℕ) (e f a b c d : ℤ) (q : State) (i : ℕ) → HasCorners triples w → Quadrilateral triples e f a b c d
+pub exits_second : (triples : List (List ℤ)) (w : List ℕ) (e f a b c d : ℤ) (q : State) (i : ℕ) → HasCornerSums triples w → Quadrilateral triples e f a b c d
     → inverse q.label ≡ b → q.place + i + 1 ≡ weight w b
     → SecondExit (corner_count triples w a) (corner_count triples w d) (weight w a) (weight w b) (weight w e) (weight w d) i a c d e
       (past triples w (edge_of e) (strand_step triples w q)) (crossed (edge_of e) (strand_step triples w q))

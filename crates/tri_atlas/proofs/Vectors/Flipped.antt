@@ -8,7 +8,7 @@ use Rattle.tri_atlas.specs.Moves.{IsFlip}
 use Rattle.tri_atlas.specs.MovedVectors.{greater_sum}
 use Rattle.tri_atlas.proofs.Letters.{edge_of-inverse}
 use Rattle.tri_atlas.proofs.Flips.{flip_edges}
-use Rattle.tri_atlas.proofs.Vectors.Turns.{HasCorners}
+use Rattle.tri_atlas.proofs.Vectors.Turns.{HasCornerSums}
 use Rattle.tri_atlas.proofs.Vectors.Exits.{Quadrilateral, turned, Sums, sums_of}
 use Rattle.tri_atlas.proofs.Vectors.Pairs.{IsApartFrom, IsFlippedPair, same_number}
 use Rattle.tri_atlas.proofs.Vectors.Sides.{sides_before, sides_after, others_stay}
@@ -17,7 +17,7 @@ use Rattle.tri_atlas.proofs.Vectors.Given.{Given, corners_of}
 
 -- ---- the numbers of a quadrilateral
 
-summed : (triples : List (List ℤ)) (w : List ℕ) (e f a b c d : ℤ) → HasCorners triples w → Quadrilateral triples e f a b c d
+summed : (triples : List (List ℤ)) (w : List ℕ) (e f a b c d : ℤ) → HasCornerSums triples w → Quadrilateral triples e f a b c d
     → IsSummed (weight w e) (weight w a) (weight w b) (weight w c) (weight w d) (corner_count triples w e) (corner_count triples w a)
       (corner_count triples w b) (corner_count triples w f) (corner_count triples w c) (corner_count triples w d)
 summed triples w e f a b c d h s =

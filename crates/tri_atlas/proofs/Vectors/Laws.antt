@@ -5,7 +5,7 @@ use Rattle.std.proofs.lemmas.Grind.{same_number_lists}
 use Rattle.ideal_tri.specs.Triangulations.{IsTriangulation, edge_count}
 use Rattle.ideal_tri.specs.Vectors.{IsMulticurve}
 use Rattle.ideal_tri.specs.Strands.{State, IsDrawing, words_of}
-use Rattle.tri_atlas.specs.Moves.{Move, ArePath}
+use Rattle.tri_atlas.specs.Moves.{Move, IsFlip, ArePath}
 use Rattle.tri_atlas.specs.Maps.{path_map, images_under, IsFixed}
 use Rattle.tri_atlas.specs.MovedVectors.{vector_along}
 use Rattle.tri_atlas.specs.VectorLaws.{AlongLaws, NumberLaws, VectorLaws}
@@ -35,10 +35,14 @@ module _ (g : Given) (triples : List (List ℤ)) (moves : List Move) (w : List �
   fixed_curves : vector_along moves w ≡ w → IsFixed (path_map moves) (words_of runs)
   fixed_curves same = laws.curves runs runs d (subst (λ (v : List ℕ). IsDrawing triples v runs) (sym same) d)
 
+flipped_triangulation : Given → (before target : List (List ℤ)) (e a b c d : ℤ) → IsTriangulation before → IsFlip before target e a b c d → IsTriangulation target
+flipped_triangulation g before target e a b c d p h =
+    subst IsTriangulation (sym h.result) (g.flips.flips before e p h.label h.flippable).triangulation
+
 number_laws : Given → NumberLaws
 number_laws g = record {
-  enough = λ before target e a b c d w p t h m. enough g before target e a b c d p t h w m;
-  enough_back = λ before target e a b c d w p t h m. enough_back g before target e a b c d p t h w m;
+  enough = λ before target e a b c d w p h m. enough g before target e a b c d p (flipped_triangulation g before target e a b c d p h) h w m;
+  enough_back = λ before target e a b c d w p h m. enough_back g before target e a b c d p (flipped_triangulation g before target e a b c d p h) h w m;
   moved = λ before target images w x h l. weight-image before target images w x h l;
 }
 

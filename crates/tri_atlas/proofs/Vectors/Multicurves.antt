@@ -8,7 +8,7 @@ use Rattle.ideal_tri.specs.Relabellings.{IsTriangleOf}
 use Rattle.ideal_tri.specs.Triangulations.{IsTriangulation, IsLabel, edge_count, next, previous}
 use Rattle.ideal_tri.specs.Vectors.{IsMulticurve, IsEven, HasNoLongSide, weight, corner_count}
 use Rattle.tri_atlas.proofs.Relabellings.{three_letters}
-use Rattle.tri_atlas.proofs.Vectors.Turns.{HasCorners}
+use Rattle.tri_atlas.proofs.Vectors.Turns.{HasCornerSums}
 use Rattle.tri_atlas.proofs.Vectors.Exits.{Quadrilateral}
 use Rattle.tri_atlas.proofs.Vectors.Pairs.{IsApartFrom, Place, at_e, at_a, at_b, at_f, at_c, at_d, apart, place_of, next_apart, apart_off}
 
@@ -96,7 +96,7 @@ multicurve_of q triples v t long good = record {
         (x, y, z, is, subst (λ (u : ℤ). IsGood (weight v x) (weight v y) (weight v u)) yz first)
 
 -- the numbers of a multicurve are good
-pub good_at : (triples : List (List ℤ)) (w : List ℕ) (x : ℤ) → TriangleLaws triples → HasCorners triples w → IsLabel triples x → IsGoodAt triples w x
+pub good_at : (triples : List (List ℤ)) (w : List ℕ) (x : ℤ) → TriangleLaws triples → HasCornerSums triples w → IsLabel triples x → IsGoodAt triples w x
 good_at triples w x t h l =
     IsGood-corners (weight w x) (weight w y) (weight w z) (corner_count triples w x) (corner_count triples w y) (corner_count triples w z)
     (h.sums x l)
@@ -122,7 +122,7 @@ good_from triples v x y z xy yz h =
     (subst (λ (u : ℤ). IsGood (weight v x) (weight v y) (weight v u)) (sym yz) h)
 
 good_apart : (triples others : List (List ℤ)) (u v : List ℕ) (e f a b c d x : ℤ) → TriangleLaws triples → Quadrilateral triples e f a b c d
-    → TriangleLaws others → edge_count others ≡ edge_count triples → HasCorners others u
+    → TriangleLaws others → edge_count others ≡ edge_count triples → HasCornerSums others u
     → ((y : ℤ) → IsLabel triples y → IsApartFrom e f a b c d y → next triples y ≡ next others y)
     → ((y : ℤ) → edge_of y ≢ edge_of e → weight v y ≡ weight u y) → IsLabel triples x → IsApartFrom e f a b c d x → IsGoodAt triples v x
 good_apart triples others u v e f a b c d x t s o edges h same numbers l q =
@@ -151,7 +151,7 @@ good_apart triples others u v e f a b c d x t s o edges h same numbers l q =
     back = same y ly y_away ∙ ap (next others) (same x l q)
 
 pub multicurve_moved : TripleLaws → (triples others : List (List ℤ)) (u v : List ℕ) (e f a b c d : ℤ) → IsTriangulation triples → TriangleLaws triples
-    → Quadrilateral triples e f a b c d → TriangleLaws others → edge_count others ≡ edge_count triples → HasCorners others u
+    → Quadrilateral triples e f a b c d → TriangleLaws others → edge_count others ≡ edge_count triples → HasCornerSums others u
     → ((y : ℤ) → IsLabel triples y → IsApartFrom e f a b c d y → next triples y ≡ next others y)
     → ((y : ℤ) → edge_of y ≢ edge_of e → weight v y ≡ weight u y) → length v ≡ edge_count triples
     → IsGood (weight v e) (weight v a) (weight v b) → IsGood (weight v f) (weight v c) (weight v d) → IsMulticurve triples v

@@ -6,7 +6,7 @@ use Rattle.ideal_tri.specs.SurfaceLaws.{TriangleLaws}
 use Rattle.ideal_tri.specs.Triangulations.{IsLabel, edge_count, next, previous}
 use Rattle.ideal_tri.specs.Vectors.{weight, corner_count}
 use Rattle.tri_atlas.proofs.Letters.{two_labels, same_or_not, edge_of-inverse}
-use Rattle.tri_atlas.proofs.Vectors.Turns.{HasCorners, weight-inverse}
+use Rattle.tri_atlas.proofs.Vectors.Turns.{HasCornerSums, weight-inverse}
 use Rattle.tri_atlas.proofs.Vectors.Exits.{Quadrilateral, turned}
 
 -- ---- the sides of the two triangles, and all other labels
@@ -86,8 +86,8 @@ module _ (triples : List (List ℤ)) (e f a b c d : ℤ) (t : TriangleLaws tripl
 
 -- (e,a,b) and (f,c,d) here, (e,d,a) and (f,b,c) there; all other triangles and numbers are the same
 pub record IsFlippedPair (here there : List (List ℤ)) (w v : List ℕ) (e f a b c d : ℤ) : Type 0 where
-  pub corners_here : HasCorners here w
-  pub corners_there : HasCorners there v
+  pub corners_here : HasCornerSums here w
+  pub corners_there : HasCornerSums there v
   pub sides_here : Quadrilateral here e f a b c d
   pub sides_there : Quadrilateral there e f d a b c
   pub triangles : TriangleLaws here

@@ -12,7 +12,7 @@ use Rattle.ideal_tri.specs.Strands.{State, IsStrand, strand_step}
 use Rattle.tri_atlas.specs.Maps.{step_before}
 use Rattle.tri_atlas.proofs.Letters.{inverse-inverse, not_own_inverse, edge_of-inverse, two_labels, inverse_word-inverse_word, reduce-reduce, reduce-left, reduce-right}
 use Rattle.tri_atlas.proofs.FlipImages.{step_before-b, step_before-d, step_before-other}
-use Rattle.tri_atlas.proofs.Vectors.Turns.{HasCorners, step_label, step_valid}
+use Rattle.tri_atlas.proofs.Vectors.Turns.{HasCornerSums, step_label, step_valid}
 use Rattle.tri_atlas.proofs.Vectors.Exits.{is_on, past, crossed, crossed-on, crossed-off, Quadrilateral, turned}
 use Rattle.tri_atlas.proofs.Vectors.Rows.{Prefixes, Agrees}
 use Rattle.tri_atlas.proofs.Vectors.Pairs.{IsFlippedPair, one_edge}

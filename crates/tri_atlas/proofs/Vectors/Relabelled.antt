@@ -12,7 +12,7 @@ use Rattle.tri_atlas.specs.Moves.{relabel, origin_of, inverse_images}
 use Rattle.tri_atlas.specs.MovedVectors.{vector_after}
 use Rattle.tri_atlas.proofs.Flips.{inverse_label}
 use Rattle.tri_atlas.proofs.Relabellings.{IsBijection, bijection_of, image_of-inverse, edge_of-image_of, same_edges, label_of_image, image_of-origin, origin_below, length-inverse_images, image_of-inverse_images, ImagesFollow, images_follow, relabelling_undone, relabelling_back}
-use Rattle.tri_atlas.proofs.Vectors.Turns.{HasCorners}
+use Rattle.tri_atlas.proofs.Vectors.Turns.{HasCornerSums}
 use Rattle.tri_atlas.proofs.Vectors.Multicurves.{IsGood-same, IsGoodAt, good_at, multicurve_of}
 use Rattle.tri_atlas.proofs.Vectors.Given.{Given, corners_of}
 

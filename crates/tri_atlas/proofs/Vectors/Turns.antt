@@ -14,7 +14,7 @@ pub weight-inverse : (w : List ℕ) (x : ℤ) → weight w (inverse x) ≡ weigh
 weight-inverse w x = ap (slice_index w) (edge_of-inverse x)
 
 -- each side is crossed by the strands round its two ends
-pub record HasCorners (triples : List (List ℤ)) (w : List ℕ) : Type 0 where
+pub record HasCornerSums (triples : List (List ℤ)) (w : List ℕ) : Type 0 where
   pub sums : (x : ℤ) → IsLabel triples x → weight w x ≡ corner_count triples w x + corner_count triples w (previous triples x)
 
 -- from place i of a side, with k strands at the corner at its tail: on to y, or back to z. Y is the number of the side
@@ -24,7 +24,7 @@ pub data Turns (k : ℕ) (y z : ℤ) (Y Z i : ℕ) (r : State) : Type 0 where
   back : i < k → r.label ≡ z → i + r.place + 1 ≡ Z → Turns k y z Y Z i r
 
 -- out of the triangle through the side of q, and from place i of the other side of that edge
-pub step_turns : (triples : List (List ℤ)) (w : List ℕ) (q : State) (i : ℕ) → HasCorners triples w → IsLabel triples (inverse q.label)
+pub step_turns : (triples : List (List ℤ)) (w : List ℕ) (q : State) (i : ℕ) → HasCornerSums triples w → IsLabel triples (inverse q.label)
     → IsLabel triples (previous triples (inverse q.label)) → q.place + i + 1 ≡ weight w q.label
     → Turns (corner_count triples w (previous triples (inverse q.label))) (next triples (inverse q.label)) (previous triples (inverse q.label))
       (weight w q.label) (weight w (previous triples (inverse q.label))) i (strand_step triples w q)
@@ -67,7 +67,7 @@ step_turns triples w q i h l m there = go
         ]
 
 -- the same, with the three sides named
-pub turns_at : (triples : List (List ℤ)) (w : List ℕ) (q : State) (i Y : ℕ) (x y z : ℤ) → HasCorners triples w → IsLabel triples x → IsLabel triples z
+pub turns_at : (triples : List (List ℤ)) (w : List ℕ) (q : State) (i Y : ℕ) (x y z : ℤ) → HasCornerSums triples w → IsLabel triples x → IsLabel triples z
     → inverse q.label ≡ x → next triples x ≡ y → previous triples x ≡ z → weight w q.label ≡ Y → q.place + i + 1 ≡ Y
     → Turns (corner_count triples w z) y z Y (weight w z) i (strand_step triples w q)
 turns_at triples w q i Y x y z h lx lz is_x is_y is_z is_Y there =
@@ -95,7 +95,7 @@ step_label triples w q = go (leb (corner_count triples w (previous triples (inve
     go false = inr refl
 
 -- the step of a strand is a strand
-pub step_valid : (triples : List (List ℤ)) (w : List ℕ) (q : State) → HasCorners triples w → TriangleLaws triples → IsStrand triples w q
+pub step_valid : (triples : List (List ℤ)) (w : List ℕ) (q : State) → HasCornerSums triples w → TriangleLaws triples → IsStrand triples w q
     → IsStrand triples w (strand_step triples w q)
 step_valid triples w q h laws s =
     elim (step_turns triples w q i h lx lz (let within : q.place < weight w q.label = s.within in omega arith)) [
