@@ -1,11 +1,13 @@
 pub mod Turns
+pub mod Quadrilaterals
+pub mod Apart
 pub mod Exits
 pub mod Rows
 pub mod Pairs
 pub mod Passes
 pub mod Sides
-pub mod Multicurves
 pub mod Given
+pub mod Multicurves
 pub mod Flipped
 pub mod Carried
 pub mod CarriedRuns

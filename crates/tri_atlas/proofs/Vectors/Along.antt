@@ -1,5 +1,5 @@
 -- The vector along a path: its curves are the images of the curves under the map of the path.
-use Rattle.std.proofs.Common.{ℕ, zero, suc, ℤ, List, [], ◌∷◌, ◌++◌, ◌≡◌, ◌<◌, ◌+◌, inl, inr, refl, sym, ◌∙◌, ap, subst, arith, length, map, take, get_or}
+use Rattle.std.proofs.Common.{ℕ, ℤ, List, [], ◌∷◌, ◌++◌, ◌≡◌, inl, refl, sym, ◌∙◌, ap, subst, length}
 use Rattle.std.specs.List.{All, AllZip, flat_map}
 use Rattle.std.proofs.lemmas.List.Elements.{All-head, All-tail}
 use Rattle.ideal_tri.specs.Words.{reduce, cyclic_reduce, strip, IsRotation, IsCyclicallyReduced}
@@ -9,14 +9,12 @@ use Rattle.ideal_tri.specs.Triangulations.{IsTriangulation, edge_count}
 use Rattle.ideal_tri.specs.Vectors.{IsMulticurve}
 use Rattle.ideal_tri.specs.Strands.{State, IsDrawing, words_of}
 use Rattle.tri_atlas.specs.Moves.{Move, flip, unflip, relabel, IsMove, back_of, ArePath, back_along}
-use Rattle.tri_atlas.specs.Maps.{IsOdd, identity, after, image_of_letter, path_map, images_under, IsImageVector}
-use Rattle.tri_atlas.specs.MapLaws.{SubstitutionLaws}
+use Rattle.tri_atlas.specs.Maps.{identity, after, image_of_letter, path_map, images_under}
 use Rattle.tri_atlas.specs.MovedVectors.{vector_after, vector_along}
 use Rattle.tri_atlas.specs.VectorLaws.{MovedLaws, AlongLaws}
 use Rattle.tri_atlas.proofs.Flips.{flip_edges}
 use Rattle.tri_atlas.proofs.Relabellings.{same_edges}
 use Rattle.tri_atlas.proofs.Substitutions.{substitution_laws, flat_map-respects, flat_map-after}
-use Rattle.tri_atlas.proofs.Moves.{image_of_letter-odd}
 use Rattle.tri_atlas.proofs.Paths.{flat_map-identity, flat_map-same, path_map-odd, path_map-join, back_along-cons}
 use Rattle.tri_atlas.proofs.Vectors.Given.{Given}
 use Rattle.tri_atlas.proofs.Vectors.FlipLaws.{flip_laws, unflip_laws, image_of_curves}
@@ -95,8 +93,8 @@ images_after : Given → (m : Move) (moves : List Move) (words : List (List ℤ)
 images_after g m moves [] = tt
 images_after g m moves (word ∷ words) = (
   inl (subst (IsRotation (cyclic_reduce (flat_map (path_map moves) (cyclic_reduce (flat_map (image_of_letter m) word)))))
-    (same_cyclic (flat_map (path_map moves) (flat_map (image_of_letter m) word)) (flat_map (path_map (m ∷ moves)) word) (reduce-first g m moves word))
-    ((substitution_laws g.reduction g.cyclic g.curves).cyclic (path_map moves) (flat_map (image_of_letter m) word) (path_map-odd g.reduction moves))),
+      (same_cyclic (flat_map (path_map moves) (flat_map (image_of_letter m) word)) (flat_map (path_map (m ∷ moves)) word) (reduce-first g m moves word))
+      ((substitution_laws g.reduction g.cyclic g.curves).cyclic (path_map moves) (flat_map (image_of_letter m) word) (path_map-odd g.reduction moves))),
   images_after g m moves words,
 )
 

@@ -55,7 +55,6 @@ carried_state-off there v n q e = ap (λ (b : Bool). cond b [] (q ∷ on_only n 
 -- ---- one step
 
 module _ (there : List (List ℤ)) (v : List ℕ) (n : ℕ) where
-
   -- the letters of the state on the edge, or none
   word_of-on_only : (q : State) → word_of (on_only n q) ≡ crossed n q
   word_of-on_only q =
@@ -79,7 +78,6 @@ module _ (there : List (List ℤ)) (v : List ℕ) (n : ℕ) where
 -- ---- runs
 
 module _ (laws : ReductionLaws) (here there : List (List ℤ)) (w v : List ℕ) (n : ℕ) (pre : ℤ → List ℤ) (h : IsPassing here there w v n pre) where
-
   -- what is carried of a run
   abbrev pub carry : List State → List State
   carry run = carried there v n run

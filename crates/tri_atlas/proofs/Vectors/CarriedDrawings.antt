@@ -1,10 +1,10 @@
 -- A drawing is carried across a flip to a drawing, whose words are the images of the words.
-use Rattle.std.proofs.Common.{ℕ, ℤ, pos, true, false, List, [], ◌∷◌, ◌++◌, ◌≡◌, ◌≢◌, ◌+◌, ◌-◌, inl, inr, refl, sym, ◌∙◌, ap, subst, map, nat_eq}
+use Rattle.std.proofs.Common.{ℕ, ℤ, pos, false, List, [], ◌∷◌, ◌++◌, ◌≡◌, ◌+◌, ◌-◌, inl, inr, refl, sym, ◌∙◌, ap, subst, map, nat_eq}
 use Rattle.std.specs.List.{All, AllZip, count_by, flat_map}
-use Rattle.std.proofs.lemmas.Bool.{cases_Bool, eq-eqb}
+use Rattle.std.proofs.lemmas.Bool.{cases_Bool}
 use Rattle.std.proofs.lemmas.List.Concat.{flat_map-append}
 use Rattle.std.proofs.lemmas.List.Elements.{All-map, All-weaker, All-head, All-tail}
-use Rattle.ideal_tri.specs.Labels.{inverse, edge_of}
+use Rattle.ideal_tri.specs.Labels.{inverse}
 use Rattle.ideal_tri.specs.Words.{cyclic_reduce, IsRotation, IsCyclicallyReduced}
 use Rattle.ideal_tri.specs.Curves.{IsSameCurve, IsSameCurves}
 use Rattle.ideal_tri.specs.Triangulations.{IsTriangulation, edge_count}
@@ -12,7 +12,7 @@ use Rattle.ideal_tri.specs.Vectors.{IsMulticurve}
 use Rattle.ideal_tri.specs.Strands.{State, state_at, IsStrand, same_state, opposite, strand_step, IsClosedRun, uses, IsDrawing, word_of, words_of}
 use Rattle.tri_atlas.specs.Maps.{images_under}
 use Rattle.tri_atlas.proofs.Letters.{edge_of-inverse}
-use Rattle.tri_atlas.proofs.Vectors.Exits.{is_on}
+use Rattle.tri_atlas.proofs.Vectors.Exits.{is_on, not_on}
 use Rattle.tri_atlas.proofs.Vectors.Given.{Given}
 use Rattle.tri_atlas.proofs.Vectors.Carried.{IsPassing, image_with, carried_state, carried}
 use Rattle.tri_atlas.proofs.Vectors.CarriedRuns.{count-carried, carried_closed, carried_word}
@@ -23,12 +23,8 @@ flat_map-flat f (run ∷ runs) =
     ap (λ (u : List _). flat_map f run ++ u) (flat_map-flat f runs) ∙ sym (flat_map-append f run (flat_map (λ r. r) runs))
 
 module _ (g : Given) (here there : List (List ℤ)) (w v : List ℕ) (n : ℕ) (pre : ℤ → List ℤ) (h : IsPassing here there w v n pre)
-  (p : IsTriangulation here) (t : IsTriangulation there) (m : IsMulticurve here w) (k : IsMulticurve there v) (same_edges : edge_count there ≡ edge_count here)
-  (runs : List (List State)) (d : IsDrawing here w runs) where
-
-  not_on : (q : State) → is_on n q ≡ false → edge_of q.label ≢ n
-  not_on q off e = let yes : is_on n q ≡ true = eq-eqb (edge_of q.label) n e in cc
-
+    (p : IsTriangulation here) (t : IsTriangulation there) (m : IsMulticurve here w) (k : IsMulticurve there v) (same_edges : edge_count there ≡ edge_count here)
+    (runs : List (List State)) (d : IsDrawing here w runs) where
   -- a strand off the edge is used as often
   uses_off : (q : State) → is_on n q ≡ false → uses v q (flat_map (λ run. run) (map (carried there v n) runs)) ≡ uses w q (flat_map (λ run. run) runs)
   uses_off q off =
@@ -38,7 +34,7 @@ module _ (g : Given) (here there : List (List ℤ)) (w v : List ℕ) (n : ℕ) (
       ∙ ap (λ (i : ℕ). count_by (same_state q) (flat_map (λ run. run) runs) + i) (count-carried there v n (opposite w q) opposite_off (flat_map (λ run. run) runs))
     where
       opposite_same : opposite v q ≡ opposite w q
-      opposite_same = ap (λ (i : ℕ). state_at (inverse q.label) (i - 1 - q.place)) (h.numbers q.label (not_on q off))
+      opposite_same = ap (λ (i : ℕ). state_at (inverse q.label) (i - 1 - q.place)) (h.numbers q.label (not_on n q off))
 
       opposite_off : is_on n (opposite w q) ≡ false
       opposite_off = ap (λ (i : ℕ). nat_eq i n) (edge_of-inverse q.label) ∙ off
@@ -71,8 +67,8 @@ module _ (g : Given) (here there : List (List ℤ)) (w v : List ℕ) (n : ℕ) (
   rotated [] c r = tt
   rotated (run ∷ us) c r = (
     inl (subst (IsRotation (cyclic_reduce (flat_map (image_with pre) (word_of run))))
-      (g.cyclic.fixed (word_of (carried there v n run)) (All-head IsCyclicallyReduced (word_of (carried there v n run)) (words_of (map (carried there v n) us)) r))
-      (carried_word g.reduction g.cyclic here there w v n pre h run (All-head (IsClosedRun here w) run us c))),
+        (g.cyclic.fixed (word_of (carried there v n run)) (All-head IsCyclicallyReduced (word_of (carried there v n run)) (words_of (map (carried there v n) us)) r))
+        (carried_word g.reduction g.cyclic here there w v n pre h run (All-head (IsClosedRun here w) run us c))),
     rotated us (All-tail (IsClosedRun here w) run us c) (All-tail IsCyclicallyReduced (word_of (carried there v n run)) (words_of (map (carried there v n) us)) r),
   )
 

@@ -23,7 +23,6 @@ same_state-apart n q p off on =
     apart e = let yes : is_on n q ≡ true = eq-eqb (edge_of q.label) n (e ∙ eqb-true (edge_of p.label) n on) in cc
 
 module _ (there : List (List ℤ)) (v : List ℕ) (n : ℕ) (q : State) (off : is_on n q ≡ false) where
-
   count-on_only : (p : State) → count_by (same_state q) (on_only n p) ≡ 0
   count-on_only p =
       elim (cases_Bool (is_on n p)) [
@@ -59,8 +58,7 @@ module _ (there : List (List ℤ)) (v : List ℕ) (n : ℕ) (q : State) (off : i
 -- ---- closed runs
 
 module _ (laws : ReductionLaws) (cyclic : CyclicLaws) (here there : List (List ℤ)) (w v : List ℕ) (n : ℕ) (pre : ℤ → List ℤ)
-  (h : IsPassing here there w v n pre) where
-
+    (h : IsPassing here there w v n pre) where
   abbrev pub carry : List State → List State
   carry run = carried there v n run
 

@@ -1,24 +1,18 @@
 -- The entries of a vector after a move: a flip changes one, and a relabelling moves them.
-use Rattle.std.proofs.Common.{ℕ, zero, suc, ℤ, pos, Bool, true, false, List, [], ◌∷◌, ◌≡◌, ◌≢◌, ◌≤◌, ◌<◌, ◌+◌, ◌↔◌, inl, inr, refl, sym, ◌∙◌, ap, subst, arith, length, length-set, map, take, get_or, set}
+use Rattle.std.proofs.Common.{ℕ, ℤ, pos, true, false, List, ◌≡◌, ◌≢◌, ◌<◌, inl, inr, refl, sym, ◌∙◌, ap, subst, length, length-set, map, get_or}
 use Rattle.std.specs.Prelude.{slice_index}
 use Rattle.std.specs.List.{All}
-use Rattle.std.proofs.lemmas.Bool.{cases_eq, cases_lt}
+use Rattle.std.proofs.lemmas.Bool.{cases_lt}
 use Rattle.std.proofs.lemmas.List.{get_or-set_same, get_or-set_other}
 use Rattle.std.proofs.lemmas.List.Elements.{All-get_or, All-from_get_or, All-set}
 use Rattle.ideal_tri.specs.Labels.{edge_of}
-use Rattle.ideal_tri.specs.Drawings.{draw}
-use Rattle.ideal_tri.specs.Triangulations.{IsTriangulation, IsLabel, edge_count}
-use Rattle.ideal_tri.specs.Vectors.{IsMulticurve, weight}
-use Rattle.ideal_tri.specs.Strands.{IsDrawing}
-use Rattle.tri_atlas.specs.Moves.{Move, flip, unflip, relabel, IsMove, ArePath, inverse_images}
-use Rattle.tri_atlas.specs.Maps.{path_map}
+use Rattle.ideal_tri.specs.Triangulations.{edge_count}
+use Rattle.ideal_tri.specs.Vectors.{weight}
+use Rattle.tri_atlas.specs.Moves.{Move, flip, unflip, relabel, IsMove, inverse_images}
 use Rattle.tri_atlas.specs.Paths.{is_flip}
-use Rattle.tri_atlas.specs.MovedVectors.{vector_after, vector_along, move_at, flipped_edge, new_number, flipped_number, IsOver, IsFirstOver, ImageReaches, OverflowsAt}
-use Rattle.tri_atlas.specs.VectorLaws.{OverflowLaws}
+use Rattle.tri_atlas.specs.MovedVectors.{vector_after, flipped_edge, new_number, flipped_number, IsOver}
 use Rattle.tri_atlas.proofs.Flips.{flip_edges}
-use Rattle.tri_atlas.proofs.Vectors.Given.{Given}
 use Rattle.tri_atlas.proofs.Vectors.Relabelled.{HasOrigin, origin, weight-image, length-moved}
-use Rattle.tri_atlas.proofs.Vectors.Along.{moved_laws, along_laws}
 
 abbrev pub Below : ℕ → List ℕ → Type 0
 Below bound w = All (λ n. n < bound) w
@@ -55,7 +49,7 @@ below-after bound before target (relabel images) w h long all under =
     entry : (k : ℕ) → HasOrigin before images (pos k) → get_or (map (weight w) (inverse_images images)) k 0 < bound
     entry k o =
         subst (λ (n : ℕ). n < bound)
-        (sym (ap (weight (map (weight w) (inverse_images images))) (sym o.is) ∙ weight-image before target images w o.origin h o.label))
+        (sym (ap (weight (map (weight w) (inverse_images images))) (sym o.is) ∙ weight-image before target images w h o.origin o.label))
         (All-get_or (λ n. n < bound) w (edge_of o.origin) 0 (subst (λ (n : ℕ). edge_of o.origin < n) (sym long) o.label) all)
 
 -- the new number of a flip stands at its edge

@@ -1,6 +1,5 @@
 -- The laws of vectors, for every move and path.
-use Rattle.std.proofs.Common.{ℕ, ℤ, List, ◌≡◌, ◌<◌, ◌↔◌, sym, ◌∙◌, subst, length}
-use Rattle.std.specs.Prelude.{slice_index}
+use Rattle.std.proofs.Common.{ℕ, ℤ, List, ◌≡◌, ◌<◌, sym, ◌∙◌, subst}
 use Rattle.std.proofs.lemmas.Grind.{same_number_lists}
 use Rattle.ideal_tri.specs.Triangulations.{IsTriangulation, edge_count}
 use Rattle.ideal_tri.specs.Vectors.{IsMulticurve}
@@ -12,12 +11,11 @@ use Rattle.tri_atlas.specs.VectorLaws.{AlongLaws, NumberLaws, VectorLaws}
 use Rattle.tri_atlas.proofs.Vectors.Given.{Given}
 use Rattle.tri_atlas.proofs.Vectors.Flipped.{enough, enough_back}
 use Rattle.tri_atlas.proofs.Vectors.Relabelled.{weight-image}
-use Rattle.tri_atlas.proofs.Vectors.Along.{moved_laws, vector_along-append, curves_along, along_laws}
+use Rattle.tri_atlas.proofs.Vectors.Along.{moved_laws, vector_along-append, along_laws}
 use Rattle.tri_atlas.proofs.Vectors.Overflow.{vector_along-next, overflow_laws}
 
 module _ (g : Given) (triples : List (List ℤ)) (moves : List Move) (w : List ℕ) (runs : List (List State)) (p : IsTriangulation triples)
-  (h : ArePath triples moves triples) (m : IsMulticurve triples w) (d : IsDrawing triples w runs) where
-
+    (h : ArePath triples moves triples) (m : IsMulticurve triples w) (d : IsDrawing triples w runs) where
   laws : AlongLaws triples triples moves w
   laws = along_laws g triples triples moves w p h m
 
@@ -43,7 +41,7 @@ number_laws : Given → NumberLaws
 number_laws g = record {
   enough = λ before target e a b c d w p h m. enough g before target e a b c d p (flipped_triangulation g before target e a b c d p h) h w m;
   enough_back = λ before target e a b c d w p h m. enough_back g before target e a b c d p (flipped_triangulation g before target e a b c d p h) h w m;
-  moved = λ before target images w x h l. weight-image before target images w x h l;
+  moved = λ before target images w x h l. weight-image before target images w h x l;
 }
 
 pub vector_laws : Given → VectorLaws

@@ -1,45 +1,20 @@
 -- The vector after a flip is a multicurve's.
-use Rattle.std.proofs.Common.{ℕ, ℤ, List, [], ◌∷◌, ◌≡◌, ◌≢◌, ◌<◌, ◌≤◌, ◌+◌, ◌%◌, max, refl, sym, ◌∙◌, ap, subst, arith, length, get_or}
-use Rattle.std.proofs.lemmas.List.{append-nil, get_or_default}
+--
+-- With the numbers E, A, B, C, D of the edge and of the sides of (e,a,b) and (f,c,d), which are sums of corners, and F for
+-- max (A + C) (B + D) - E, the numbers F, D, A have an even sum, and none is greater than the sum of the other two; so
+-- have F, B, C. So in (e,d,a) and (f,b,c) each side is the sum of the corners at its ends. The other triangles and
+-- numbers are the same. The mirror image of this serves the backward flip.
+use Rattle.std.proofs.Common.{ℕ, ℤ, List, ◌≡◌, ◌≢◌, ◌≤◌, ◌<◌, ◌+◌, ◌-◌, ◌/◌, max, sym, ◌∙◌, ap, subst, arith}
 use Rattle.ideal_tri.specs.Labels.{edge_of}
 use Rattle.ideal_tri.specs.SurfaceLaws.{TriangleLaws}
-use Rattle.ideal_tri.specs.TripleLaws.{TripleLaws}
-use Rattle.ideal_tri.specs.Relabellings.{IsTriangleOf}
-use Rattle.ideal_tri.specs.Triangulations.{IsTriangulation, IsLabel, edge_count, next, previous}
-use Rattle.ideal_tri.specs.Vectors.{IsMulticurve, IsEven, HasNoLongSide, weight, corner_count}
-use Rattle.tri_atlas.proofs.Relabellings.{three_letters}
-use Rattle.tri_atlas.proofs.Vectors.Turns.{HasCornerSums}
-use Rattle.tri_atlas.proofs.Vectors.Exits.{Quadrilateral}
-use Rattle.tri_atlas.proofs.Vectors.Pairs.{IsApartFrom, Place, at_e, at_a, at_b, at_f, at_c, at_d, apart, place_of, next_apart, apart_off}
+use Rattle.ideal_tri.specs.Triangulations.{IsLabel, edge_count, next, previous}
+use Rattle.ideal_tri.specs.Vectors.{weight, corner_count}
+use Rattle.tri_atlas.proofs.Vectors.Turns.{HasCornerSums, same_number}
+use Rattle.tri_atlas.proofs.Vectors.Quadrilaterals.{Quadrilateral, turned, Sums, sums_of, IsApartFrom, next_apart, apart_off}
+use Rattle.tri_atlas.proofs.Vectors.Quadrilaterals.{Place, at_e, at_a, at_b, at_f, at_c, at_d, apart, place_of}
+use Rattle.tri_atlas.proofs.Vectors.Apart.{apart_previous, apart_corner}
 
--- ---- three numbers at a triangle
-
-pub record IsGood (x y z : ℕ) : Type 0 where
-  pub even : (x + y + z) % 2 ≡ 0
-  pub short_x : x ≤ y + z
-  pub short_y : y ≤ x + z
-  pub short_z : z ≤ x + y
-
-pub IsGood-turned : (x y z : ℕ) → IsGood x y z → IsGood y z x
-IsGood-turned x y z h = record {
-  even = ap (λ (n : ℕ). n % 2) (omega arith) ∙ h.even;
-  short_x = omega (arith, h.short_y);
-  short_y = omega (arith, h.short_z);
-  short_z = omega (arith, h.short_x);
-}
-
-pub IsGood-same : (x y z x' y' z' : ℕ) → x ≡ x' → y ≡ y' → z ≡ z' → IsGood x y z → IsGood x' y' z'
-IsGood-same x y z x' y' z' e f g h =
-    subst (IsGood x' y') g (subst (λ (n : ℕ). IsGood x' n z) f (subst (λ (n : ℕ). IsGood n y z) e h))
-
--- sums of corners
-pub IsGood-corners : (x y z p q r : ℕ) → x ≡ p + r → y ≡ q + p → z ≡ r + q → IsGood x y z
-IsGood-corners x y z p q r is_x is_y is_z = record {
-  even = omega arith;
-  short_x = omega arith;
-  short_y = omega arith;
-  short_z = omega arith;
-}
+-- ---- numbers
 
 -- the numbers of (e,a,b) and (f,c,d) are sums of corners
 pub record IsSummed (E A B C D ke ka kb kf kc kd : ℕ) : Type 0 where
@@ -50,123 +25,107 @@ pub record IsSummed (E A B C D ke ka kb kf kc kd : ℕ) : Type 0 where
   pub c_second : C ≡ kc + kf
   pub d_second : D ≡ kd + kc
 
--- then the edge has no greater number than the greater sum of opposite sides, and both triangles after the flip are good
-pub edge_below : (E A B C D ke ka kb kf kc kd : ℕ) → IsSummed E A B C D ke ka kb kf kc kd → E ≤ max (A + C) (B + D)
-edge_below E A B C D ke ka kb kf kc kd h = omega arith
+-- each of three numbers is the sum of the counts at its two corners
+pub record IsHalved (x y z : ℕ) : Type 0 where
+  pub first : x ≡ (x + y - z) / 2 + (z + x - y) / 2
+  pub second : y ≡ (y + z - x) / 2 + (x + y - z) / 2
+  pub third : z ≡ (z + x - y) / 2 + (y + z - x) / 2
 
-pub first_good : (E F A B C D ke ka kb kf kc kd : ℕ) → IsSummed E A B C D ke ka kb kf kc kd → E + F ≡ max (A + C) (B + D) → IsGood F D A
-first_good E F A B C D ke ka kb kf kc kd h sum = record {
-  even = omega arith;
-  short_x = omega arith;
-  short_y = omega arith;
-  short_z = omega arith;
-}
+module _ (E F A B C D ke ka kb kf kc kd : ℕ) (h : IsSummed E A B C D ke ka kb kf kc kd) where
+  pub edge_below : E ≤ max (A + C) (B + D)
+  edge_below = omega arith
 
-pub second_good : (E F A B C D ke ka kb kf kc kd : ℕ) → IsSummed E A B C D ke ka kb kf kc kd → E + F ≡ max (A + C) (B + D) → IsGood F B C
-second_good E F A B C D ke ka kb kf kc kd h sum = record {
-  even = omega arith;
-  short_x = omega arith;
-  short_y = omega arith;
-  short_z = omega arith;
-}
+  pub first_halved : E + F ≡ max (A + C) (B + D) → IsHalved F D A
+  first_halved sum = record { first = omega arith; second = omega arith; third = omega arith }
 
--- ---- a vector whose numbers are good at each label
+  pub second_halved : E + F ≡ max (A + C) (B + D) → IsHalved F B C
+  second_halved sum = record { first = omega arith; second = omega arith; third = omega arith }
 
-abbrev pub IsGoodAt : List (List ℤ) → List ℕ → ℤ → Type 0
-IsGoodAt triples v x = IsGood (weight v x) (weight v (next triples x)) (weight v (previous triples x))
+pub IsHalved-same : (x y z x' y' z' : ℕ) → x ≡ x' → y ≡ y' → z ≡ z' → IsHalved x y z → IsHalved x' y' z'
+IsHalved-same x y z x' y' z' is_x is_y is_z h =
+    subst (IsHalved x' y') is_z (subst (λ (n : ℕ). IsHalved x' n z) is_y (subst (λ (n : ℕ). IsHalved n y z) is_x h))
 
--- a triangle that stands in the list is one of its triangles
-pub stands : (triples : List (List ℤ)) (k : ℕ) (d : List ℤ) → k < length triples → IsTriangleOf triples (get_or triples k d)
-stands triples k d below = (k, get_or triples k d, below, get_or_default triples k (get_or triples k d) d below, ([], get_or triples k d, refl, sym (append-nil (get_or triples k d))))
+pub summed : (triples : List (List ℤ)) (w : List ℕ) (e f a b c d : ℤ) → HasCornerSums triples w
+    → Quadrilateral triples e f a b c d
+    → IsSummed (weight w e) (weight w a) (weight w b) (weight w c) (weight w d) (corner_count triples w e)
+    (corner_count triples w a) (corner_count triples w b) (corner_count triples w f) (corner_count triples w c)
+    (corner_count triples w d)
+summed triples w e f a b c d h s =
+    let first : Sums triples w e a b = sums_of triples e f a b c d s w h in
+    let second : Sums triples w f c d = sums_of triples f e c d a b (turned triples e f a b c d s) w h in
+    record {
+      e_first = first.side_e;
+      a_first = first.side_a;
+      b_first = first.side_b;
+      e_second = sym (same_number w e f s.f_is) ∙ second.side_e;
+      c_second = second.side_a;
+      d_second = second.side_b;
+    }
 
-pub multicurve_of : TripleLaws → (triples : List (List ℤ)) (v : List ℕ) → IsTriangulation triples → length v ≡ edge_count triples
-    → ((x : ℤ) → IsLabel triples x → IsGoodAt triples v x) → IsMulticurve triples v
-multicurve_of q triples v t long good = record {
-  one_per_edge = long;
-  even = λ k d below. let (x, y, z, is, g) = at k d below in subst (IsEven v) (sym is) g.even;
-  no_long_side = λ k d below. let (x, y, z, is, g) = at k d below in subst (HasNoLongSide v) (sym is) (g.short_x, g.short_y, g.short_z);
-}
+-- ---- triangles
+
+-- a side is the sum of its corners
+abbrev pub IsSum : List (List ℤ) → List ℕ → ℤ → Type 0
+IsSum triples v x = weight v x ≡ corner_count triples v x + corner_count triples v (previous triples x)
+
+module _ (triples : List (List ℤ)) (v : List ℕ) where
+  corner_is : (x y z : ℤ) → next triples x ≡ y → next triples y ≡ z
+      → corner_count triples v x ≡ (weight v x + weight v y - weight v z) / 2
+  corner_is x y z xy yz =
+      ap (λ (u : ℤ). (weight v x + weight v u - weight v (next triples u)) / 2) xy
+      ∙ ap (λ (u : ℤ). (weight v x + weight v y - weight v u) / 2) yz
+
+  -- the first side of a triangle of which one number is the sum of two halves
+  is_sum : (x y z : ℤ) → next triples x ≡ y → next triples y ≡ z → next triples z ≡ x
+      → weight v x ≡ (weight v x + weight v y - weight v z) / 2 + (weight v z + weight v x - weight v y) / 2
+      → IsSum triples v x
+  is_sum x y z xy yz zx h =
+      h
+      ∙ ap (λ (n : ℕ). n + (weight v z + weight v x - weight v y) / 2) (sym (corner_is x y z xy yz))
+      ∙ ap (λ (n : ℕ). corner_count triples v x + n) (sym (corner_is z x y zx xy))
+      ∙ ap (λ (u : ℤ). corner_count triples v x + corner_count triples v u) (sym (ap (next triples) xy ∙ yz))
+
+-- ---- all triangles
+
+-- `here` has such a vector, and `there` has the same triangles and numbers apart from two triangles that are halved
+pub sums_moved : (here there : List (List ℤ)) (w v : List ℕ) (e f a b c d a' b' c' d' : ℤ) → TriangleLaws here
+    → Quadrilateral here e f a b c d → Quadrilateral there e f a' b' c' d'
+    → ((x : ℤ) → IsApartFrom e f a' b' c' d' x → IsApartFrom e f a b c d x) → edge_count there ≡ edge_count here
+    → ((x : ℤ) → IsLabel here x → IsApartFrom e f a b c d x → next there x ≡ next here x)
+    → ((x : ℤ) → edge_of x ≢ edge_of e → weight v x ≡ weight w x) → HasCornerSums here w
+    → IsHalved (weight v e) (weight v a') (weight v b') → IsHalved (weight v f) (weight v c') (weight v d')
+    → HasCornerSums there v
+sums_moved here there w v e f a b c d a' b' c' d' laws s t turn edges others numbers h first second =
+    record { sums = λ x l. go x l (place_of e f a' b' c' d' x) }
   where
-    at : (k : ℕ) (d : List ℤ) → k < length triples
-        → (x : ℤ) × (y : ℤ) × (z : ℤ) × (get_or triples k d ≡ x ∷ (y ∷ (z ∷ []))) × IsGood (weight v x) (weight v y) (weight v z)
-    at k d below =
-        let (x, y, z, is) = three_letters (get_or triples k d) (t.three_sides k d below) in
-        let (label, xy, yz) = q.sides triples x y z t (subst (IsTriangleOf triples) is (stands triples k d below)) in
-        let first = subst (λ (u : ℤ). IsGood (weight v x) (weight v u) (weight v (next triples u))) xy (good x label) in
-        (x, y, z, is, subst (λ (u : ℤ). IsGood (weight v x) (weight v y) (weight v u)) yz first)
+    at : (x y : ℤ) → y ≡ x → IsSum there v x → IsSum there v y
+    at x y k = subst (IsSum there v) (sym k)
 
--- the numbers of a multicurve are good
-pub good_at : (triples : List (List ℤ)) (w : List ℕ) (x : ℤ) → TriangleLaws triples → HasCornerSums triples w → IsLabel triples x → IsGoodAt triples w x
-good_at triples w x t h l =
-    IsGood-corners (weight w x) (weight w y) (weight w z) (corner_count triples w x) (corner_count triples w y) (corner_count triples w z)
-    (h.sums x l)
-    (h.sums y ly ∙ ap (λ (p : ℤ). corner_count triples w y + corner_count triples w p) (t.round x l))
-    (h.sums z (t.label y ly) ∙ ap (λ (p : ℤ). corner_count triples w z + corner_count triples w (next triples p)) (t.round x l))
-  where
-    y : ℤ
-    y = next triples x
+    apart_sum : (x : ℤ) → IsLabel here x → IsApartFrom e f a b c d x → IsSum there v x
+    apart_sum x l q =
+        numbers x (apart_off here e f a b c d laws s x q)
+        ∙ h.sums x l
+        ∙ sym (ap (λ (n : ℕ). n + corner_count there v (previous there x)) (corner x l q)
+        ∙ ap (λ (u : ℤ). corner_count here w x + corner_count there v u) (apart_previous here there w v e f a b c d laws s others numbers x l q)
+        ∙ ap (λ (n : ℕ). corner_count here w x + n) (corner (previous here x) lz z_away))
+      where
+        corner : (y : ℤ) → IsLabel here y → IsApartFrom e f a b c d y → corner_count there v y ≡ corner_count here w y
+        corner = apart_corner here there w v e f a b c d laws s others numbers
 
-    z : ℤ
-    z = previous triples x
+        ly : IsLabel here (next here x)
+        ly = laws.label x l
 
-    ly : IsLabel triples (next triples x)
-    ly = t.label x l
+        lz : IsLabel here (previous here x)
+        lz = laws.label (next here x) ly
 
--- ---- a vector with the same numbers apart from one edge, on a triangulation with the same triangles apart from two
+        z_away : IsApartFrom e f a b c d (previous here x)
+        z_away = next_apart here e f a b c d laws s (next here x) ly (next_apart here e f a b c d laws s x l q)
 
--- a label and the two after it are good where one of the three is
-good_from : (triples : List (List ℤ)) (v : List ℕ) (x y z : ℤ) → next triples x ≡ y → next triples y ≡ z → IsGood (weight v x) (weight v y) (weight v z)
-    → IsGoodAt triples v x
-good_from triples v x y z xy yz h =
-    subst (λ (u : ℤ). IsGood (weight v x) (weight v u) (weight v (next triples u))) (sym xy)
-    (subst (λ (u : ℤ). IsGood (weight v x) (weight v y) (weight v u)) (sym yz) h)
-
-good_apart : (triples others : List (List ℤ)) (u v : List ℕ) (e f a b c d x : ℤ) → TriangleLaws triples → Quadrilateral triples e f a b c d
-    → TriangleLaws others → edge_count others ≡ edge_count triples → HasCornerSums others u
-    → ((y : ℤ) → IsLabel triples y → IsApartFrom e f a b c d y → next triples y ≡ next others y)
-    → ((y : ℤ) → edge_of y ≢ edge_of e → weight v y ≡ weight u y) → IsLabel triples x → IsApartFrom e f a b c d x → IsGoodAt triples v x
-good_apart triples others u v e f a b c d x t s o edges h same numbers l q =
-    IsGood-same _ _ _ _ _ _ (sym (number x q)) (ap (weight u) (sym (same x l q)) ∙ sym (number y y_away)) (ap (weight u) (sym back) ∙ sym (number z z_away))
-    (good_at others u x o h (subst (λ (n : ℕ). edge_of x < n) (sym edges) l))
-  where
-    y : ℤ
-    y = next triples x
-
-    z : ℤ
-    z = previous triples x
-
-    ly : IsLabel triples (next triples x)
-    ly = t.label x l
-
-    y_away : IsApartFrom e f a b c d (next triples x)
-    y_away = next_apart triples e f a b c d t s x l q
-
-    z_away : IsApartFrom e f a b c d (previous triples x)
-    z_away = next_apart triples e f a b c d t s y ly y_away
-
-    number : (p : ℤ) → IsApartFrom e f a b c d p → weight v p ≡ weight u p
-    number p away = numbers p (apart_off triples e f a b c d t s p away)
-
-    back : previous triples x ≡ previous others x
-    back = same y ly y_away ∙ ap (next others) (same x l q)
-
-pub multicurve_moved : TripleLaws → (triples others : List (List ℤ)) (u v : List ℕ) (e f a b c d : ℤ) → IsTriangulation triples → TriangleLaws triples
-    → Quadrilateral triples e f a b c d → TriangleLaws others → edge_count others ≡ edge_count triples → HasCornerSums others u
-    → ((y : ℤ) → IsLabel triples y → IsApartFrom e f a b c d y → next triples y ≡ next others y)
-    → ((y : ℤ) → edge_of y ≢ edge_of e → weight v y ≡ weight u y) → length v ≡ edge_count triples
-    → IsGood (weight v e) (weight v a) (weight v b) → IsGood (weight v f) (weight v c) (weight v d) → IsMulticurve triples v
-multicurve_moved q triples others u v e f a b c d is t s o edges h same numbers long first second =
-    multicurve_of q triples v is long (λ x l. go x l (place_of e f a b c d x))
-  where
-    at : (x y z : ℤ) → next triples x ≡ y → next triples y ≡ z → IsGood (weight v x) (weight v y) (weight v z)
-        → (p : ℤ) → p ≡ x → IsGoodAt triples v p
-    at x y z xy yz g p k = subst (IsGoodAt triples v) (sym k) (good_from triples v x y z xy yz g)
-
-    go : (x : ℤ) → IsLabel triples x → Place e f a b c d x → IsGoodAt triples v x
-    go x l (at_e k) = at e a b s.after_e s.after_a first x k
-    go x l (at_a k) = at a b e s.after_a s.after_b (IsGood-turned _ _ _ first) x k
-    go x l (at_b k) = at b e a s.after_b s.after_e (IsGood-turned _ _ _ (IsGood-turned _ _ _ first)) x k
-    go x l (at_f k) = at f c d s.after_f s.after_c second x k
-    go x l (at_c k) = at c d f s.after_c s.after_d (IsGood-turned _ _ _ second) x k
-    go x l (at_d k) = at d f c s.after_d s.after_f (IsGood-turned _ _ _ (IsGood-turned _ _ _ second)) x k
-    go x l (apart away) = good_apart triples others u v e f a b c d x t s o edges h same numbers l away
+    go : (x : ℤ) → IsLabel there x → Place e f a' b' c' d' x → IsSum there v x
+    go x l (at_e k) = at e x k (is_sum there v e a' b' t.after_e t.after_a t.after_b first.first)
+    go x l (at_a k) = at a' x k (is_sum there v a' b' e t.after_a t.after_b t.after_e first.second)
+    go x l (at_b k) = at b' x k (is_sum there v b' e a' t.after_b t.after_e t.after_a first.third)
+    go x l (at_f k) = at f x k (is_sum there v f c' d' t.after_f t.after_c t.after_d second.first)
+    go x l (at_c k) = at c' x k (is_sum there v c' d' f t.after_c t.after_d t.after_f second.second)
+    go x l (at_d k) = at d' x k (is_sum there v d' f c' t.after_d t.after_f t.after_c second.third)
+    go x l (apart q) = apart_sum x (subst (λ (n : ℕ). edge_of x < n) edges l) (turn x q)

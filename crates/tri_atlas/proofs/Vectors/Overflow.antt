@@ -2,9 +2,8 @@
 --
 -- The image under the map of the first k moves is the vector after them, and entries change at flips alone. So as long as
 -- no new number has reached the bound, all entries are below it; and the first one that does stands alone.
-use Rattle.std.proofs.Common.{ℕ, zero, suc, ℤ, true, List, [], ◌∷◌, ◌≡◌, ◌≢◌, ◌≤◌, ◌<◌, ◌+◌, ◌↔◌, inl, inr, refl, sym, ◌∙◌, ap, subst, arith, length, take}
+use Rattle.std.proofs.Common.{ℕ, zero, suc, ℤ, List, [], ◌∷◌, ◌≡◌, ◌≤◌, ◌<◌, inl, inr, refl, sym, ◌∙◌, ap, subst, arith, length, take}
 use Rattle.std.specs.Prelude.{slice_index}
-use Rattle.std.specs.List.{All}
 use Rattle.std.proofs.lemmas.Bool.{cases_eq, cases_lt}
 use Rattle.std.proofs.lemmas.List.Elements.{All-get_or}
 use Rattle.ideal_tri.specs.Drawings.{draw}
@@ -13,11 +12,10 @@ use Rattle.ideal_tri.specs.Vectors.{IsMulticurve}
 use Rattle.ideal_tri.specs.Strands.{IsDrawing}
 use Rattle.tri_atlas.specs.Moves.{Move, IsMove, ArePath}
 use Rattle.tri_atlas.specs.Maps.{path_map}
-use Rattle.tri_atlas.specs.Paths.{is_flip}
 use Rattle.tri_atlas.specs.MovedVectors.{vector_after, vector_along, move_at, flipped_edge, new_number, IsOver, IsFirstOver, ImageReaches, OverflowsAt}
 use Rattle.tri_atlas.specs.VectorLaws.{OverflowLaws}
 use Rattle.tri_atlas.proofs.Vectors.Given.{Given}
-use Rattle.tri_atlas.proofs.Vectors.Along.{moved_laws, along_laws, move_edges, path_edges, multicurve_along}
+use Rattle.tri_atlas.proofs.Vectors.Along.{along_laws, path_edges, multicurve_along}
 use Rattle.tri_atlas.proofs.Vectors.Entries.{Below, length-after, below-after, entry-flipped, entry-other}
 
 -- ---- the beginnings of a path
@@ -55,8 +53,7 @@ move_of before target (m ∷ moves) (suc k) (between, t, move, rest) b =
     record { from = more.from; to = more.to; path = (between, t, move, more.path); move = more.move }
 
 module _ (g : Given) (before target : List (List ℤ)) (moves : List Move) (w : List ℕ) (bound : ℕ) (p : IsTriangulation before)
-  (h : ArePath before moves target) (m : IsMulticurve before w) (small : Below bound w) where
-
+    (h : ArePath before moves target) (m : IsMulticurve before w) (small : Below bound w) where
   -- the vector after the first k moves
   abbrev vector : ℕ → List ℕ
   vector k = vector_along (take k moves) w

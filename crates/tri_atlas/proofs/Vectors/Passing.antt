@@ -1,51 +1,53 @@
 -- Flips and backward flips have the properties by which runs are carried.
-use Rattle.std.proofs.Common.{ℕ, ℤ, Bool, true, false, cond, List, [], ◌∷◌, ◌++◌, ◌≡◌, ◌≢◌, ◌<◌, inl, inr, refl, sym, ◌∙◌, ap, subst, append_assoc, eq-eqb, ne_eqb}
+--
+-- For a flip these are the steps of strands, and what it puts before the letters of the sides. For the backward flip the
+-- triangulations change their roles, and the inverse word is put before each letter: where the way back along u, then v
+-- and z reduce to v', the word u, then v' and the way back along z reduce to v, which is one letter at most.
+use Rattle.std.proofs.Common.{ℕ, ℤ, true, false, List, [], ◌∷◌, ◌++◌, ◌≡◌, ◌≢◌, ◌<◌, inl, inr, refl, sym, ◌∙◌, ap, subst}
+use Rattle.std.proofs.Common.{append_assoc, ne_eqb}
 use Rattle.std.proofs.lemmas.Bool.{cases_Bool, eqb-true}
 use Rattle.std.proofs.lemmas.List.{append-nil}
 use Rattle.ideal_tri.specs.Labels.{inverse, edge_of}
 use Rattle.ideal_tri.specs.Words.{inverse_word, reduce}
 use Rattle.ideal_tri.specs.WordLaws.{ReductionLaws}
+use Rattle.ideal_tri.specs.StrandLaws.{StrandLaws}
 use Rattle.ideal_tri.specs.SurfaceLaws.{TriangleLaws}
-use Rattle.ideal_tri.specs.Triangulations.{IsLabel, edge_count, next, previous}
-use Rattle.ideal_tri.specs.Vectors.{weight}
+use Rattle.ideal_tri.specs.Triangulations.{next, previous}
+use Rattle.ideal_tri.specs.Vectors.{IsMulticurve}
 use Rattle.ideal_tri.specs.Strands.{State, IsStrand, strand_step}
 use Rattle.tri_atlas.specs.Maps.{step_before}
-use Rattle.tri_atlas.proofs.Letters.{inverse-inverse, not_own_inverse, edge_of-inverse, two_labels, inverse_word-inverse_word, reduce-reduce, reduce-left, reduce-right}
+use Rattle.tri_atlas.proofs.Letters.{not_own_inverse, edge_of-inverse, two_labels, inverse_word-inverse_word}
+use Rattle.tri_atlas.proofs.Letters.{reduce-reduce, reduce-left, reduce-right}
 use Rattle.tri_atlas.proofs.FlipImages.{step_before-b, step_before-d, step_before-other}
-use Rattle.tri_atlas.proofs.Vectors.Turns.{HasCornerSums, step_label, step_valid}
-use Rattle.tri_atlas.proofs.Vectors.Exits.{is_on, past, crossed, crossed-on, crossed-off, Quadrilateral, turned}
-use Rattle.tri_atlas.proofs.Vectors.Rows.{Prefixes, Agrees}
-use Rattle.tri_atlas.proofs.Vectors.Pairs.{IsFlippedPair, one_edge}
+use Rattle.tri_atlas.proofs.Vectors.Turns.{one_edge, beside}
+use Rattle.tri_atlas.proofs.Vectors.Quadrilaterals.{Quadrilateral, turned, before_e}
+use Rattle.tri_atlas.proofs.Vectors.Exits.{is_on, not_on, past, crossed, crossed-on, crossed-off}
+use Rattle.tri_atlas.proofs.Vectors.Rows.{Prefixes}
+use Rattle.tri_atlas.proofs.Vectors.Pairs.{IsFlippedPair}
 use Rattle.tri_atlas.proofs.Vectors.Passes.{passes, Passes}
 use Rattle.tri_atlas.proofs.Vectors.Carried.{IsPassing}
 
--- ---- states on the edge
-
-not_on : (n : ℕ) (q : State) → is_on n q ≡ false → edge_of q.label ≢ n
-not_on n q off e = let yes : is_on n q ≡ true = eq-eqb (edge_of q.label) n e in cc
+-- ---- a flip
 
 -- from the edge a strand goes to one of the four sides
-module _ (triples : List (List ℤ)) (w : List ℕ) (e f a b c d : ℤ) (s : Quadrilateral triples e f a b c d) where
+step_off_e : (triples : List (List ℤ)) (w : List ℕ) (e f a b c d : ℤ) → Quadrilateral triples e f a b c d → (q : State)
+    → inverse q.label ≡ e → edge_of (strand_step triples w q).label ≢ edge_of e
+step_off_e triples w e f a b c d s q at =
+    beside triples w (λ x. edge_of x ≢ edge_of e) q
+    (λ k. s.off_a (ap edge_of (sym (ap (next triples) at ∙ s.after_e)) ∙ k))
+    (λ k. s.off_b (ap edge_of (sym (ap (previous triples) at ∙ before_e triples e f a b c d s)) ∙ k))
 
-  step_off_e : (q : State) → inverse q.label ≡ e → edge_of (strand_step triples w q).label ≢ edge_of e
-  step_off_e q at same =
-      elim (step_label triples w q) [
-        | inl k ↦ s.off_a (ap edge_of (sym (k ∙ ap (next triples) at ∙ s.after_e)) ∙ same)
-        | inr k ↦
-            s.off_b (ap edge_of (sym (k ∙ ap (previous triples) at ∙ ap (next triples) s.after_e ∙ s.after_a)) ∙ same)
-      ]
-
-pub step_off : (triples : List (List ℤ)) (w : List ℕ) (e f a b c d : ℤ) → Quadrilateral triples e f a b c d → (q : State)
+step_off : (triples : List (List ℤ)) (w : List ℕ) (e f a b c d : ℤ) → Quadrilateral triples e f a b c d → (q : State)
     → is_on (edge_of e) q ≡ true → is_on (edge_of e) (strand_step triples w q) ≡ false
 step_off triples w e f a b c d s q on =
-    elim (two_labels (inverse q.label) e (edge_of-inverse q.label ∙ eqb-true (edge_of q.label) (edge_of e) on)) [
-      | inl k ↦ ne_eqb (edge_of (strand_step triples w q).label) (edge_of e) (step_off_e triples w e f a b c d s q k)
+    ne_eqb (edge_of (strand_step triples w q).label) (edge_of e)
+    (elim (two_labels (inverse q.label) e (edge_of-inverse q.label ∙ eqb-true (edge_of q.label) (edge_of e) on)) [
+      | inl k ↦ step_off_e triples w e f a b c d s q k
       | inr k ↦
-          ne_eqb (edge_of (strand_step triples w q).label) (edge_of e)
-          (λ same. step_off_e triples w f e c d a b (turned triples e f a b c d s) q (k ∙ sym s.f_is) (same ∙ sym (one_edge e f s.f_is)))
-    ]
-
--- ---- a flip
+          (λ same.
+          step_off_e triples w f e c d a b (turned triples e f a b c d s) q (k ∙ sym s.f_is)
+          (same ∙ sym (one_edge e f s.f_is)))
+    ])
 
 -- what a flip puts before the letters of the sides
 flip_prefixes : (triples : List (List ℤ)) (e f a b c d : ℤ) → TriangleLaws triples → Quadrilateral triples e f a b c d → Prefixes (step_before e b d) e f a b c d
@@ -65,33 +67,35 @@ flip_prefixes triples e f a b c d t s = record {
     d_not_b : d ≢ b
     d_not_b k = not_own_inverse e (sym s.after_b ∙ sym (ap (next triples) k) ∙ s.after_d ∙ s.f_is)
 
-pub flip_passing : (here there : List (List ℤ)) (w v : List ℕ) (e f a b c d : ℤ) → TriangleLaws there → IsFlippedPair here there w v e f a b c d
+pub flip_passing : (here there : List (List ℤ)) (w v : List ℕ) (e f a b c d : ℤ) → StrandLaws here → StrandLaws there
+    → IsMulticurve here w → IsMulticurve there v → IsFlippedPair here there w v e f a b c d
     → IsPassing here there w v (edge_of e) (step_before e b d)
-flip_passing here there w v e f a b c d t h = record {
-  valid_here = λ q s. step_valid here w q h.corners_here h.triangles s;
-  valid_there = λ q s. step_valid there v q h.corners_there t s;
+flip_passing here there w v e f a b c d laws laws' m k h = record {
+  valid_here = λ q s. laws.stays w q m s;
+  valid_there = λ q s. laws'.stays v q k s;
   off_here = λ q s on. step_off here w e f a b c d h.sides_here q on;
   off_there = λ q s on. step_off there v e f d a b c h.sides_there q on;
   to_there = λ q off s. record {
-      is_label = subst (λ (n : ℕ). edge_of q.label < n) (sym h.edges) s.is_label;
-      within = subst (λ (n : ℕ). q.place < n) (sym (h.numbers q.label (not_on (edge_of e) q off))) s.within;
-    };
+    is_label = subst (λ (n : ℕ). edge_of q.label < n) (sym h.edges) s.is_label;
+    within = subst (λ (n : ℕ). q.place < n) (sym (h.numbers q.label (not_on (edge_of e) q off))) s.within;
+  };
   to_here = λ q off s. record {
-      is_label = subst (λ (n : ℕ). edge_of q.label < n) h.edges s.is_label;
-      within = subst (λ (n : ℕ). q.place < n) (h.numbers q.label (not_on (edge_of e) q off)) s.within;
-    };
+    is_label = subst (λ (n : ℕ). edge_of q.label < n) h.edges s.is_label;
+    within = subst (λ (n : ℕ). q.place < n) (h.numbers q.label (not_on (edge_of e) q off)) s.within;
+  };
   numbers = h.numbers;
-  passes = λ q off s. passes here there w v e f a b c d h (step_before e b d) (flip_prefixes here e f a b c d h.triangles h.sides_here)
-      (step_before-other e b d) (edge_of e) refl q s (not_on (edge_of e) q off);
-  plain = λ x on. step_before-other e b d x (λ k. h.sides_here.off_b (ap edge_of (sym k) ∙ on))
+  passes = λ q off s.
+      passes here there w v e f a b c d h (step_before e b d) (flip_prefixes here e f a b c d h.triangles h.sides_here)
+      (step_before-other e b d) q s (not_on (edge_of e) q off);
+  plain = λ x on.
+      step_before-other e b d x (λ k. h.sides_here.off_b (ap edge_of (sym k) ∙ on))
       (λ k. h.sides_here.off_d (ap edge_of (sym k) ∙ on ∙ sym (one_edge e f h.sides_here.f_is)));
 }
 
 -- ---- backwards
 
 module _ (laws : ReductionLaws) (here there : List (List ℤ)) (w v : List ℕ) (n : ℕ) (pre back : ℤ → List ℤ) (h : IsPassing here there w v n pre)
-  (back_is : (x : ℤ) → back x ≡ inverse_word (pre x)) where
-
+    (back_is : (x : ℤ) → back x ≡ inverse_word (pre x)) where
   -- at most one letter is crossed, so there is nothing to reduce
   crossed-reduced : (q : State) → reduce (crossed n q) ≡ crossed n q
   crossed-reduced q =

@@ -1,12 +1,12 @@
 -- A relabelling carries drawings to drawings, whose words are the images letter by letter.
-use Rattle.std.proofs.Common.{ℕ, ℤ, pos, Bool, true, false, cond, List, [], ◌∷◌, ◌++◌, ◌≡◌, ◌≢◌, ◌&&◌, ◌<◌, ◌+◌, ◌-◌, inl, inr, refl, sym, ◌∙◌, ap, subst, arith, length, map, nat_eq}
+use Rattle.std.proofs.Common.{ℕ, ℤ, pos, Bool, cond, List, [], ◌∷◌, ◌++◌, ◌≡◌, ◌&&◌, ◌<◌, ◌+◌, ◌-◌, inl, inr, refl, sym, ◌∙◌, ap, subst, arith, length, map, nat_eq}
 use Rattle.std.specs.List.{All, count_by, flat_map}
 use Rattle.std.specs.Ordering.{int_eq}
 use Rattle.std.proofs.lemmas.List.{map-append, length-map}
-use Rattle.std.proofs.lemmas.List.Elements.{All-nil, All-cons, All-head, All-tail, All-map, All-weaker, All-append}
+use Rattle.std.proofs.lemmas.List.Elements.{All-nil, All-head, All-tail, All-map, All-weaker, All-append}
 use Rattle.std.proofs.lemmas.List.Sums.{sum_by-cons}
 use Rattle.std.proofs.lemmas.Grind.{same_number_lists}
-use Rattle.ideal_tri.specs.Labels.{inverse, edge_of}
+use Rattle.ideal_tri.specs.Labels.{inverse}
 use Rattle.ideal_tri.specs.Words.{cyclic_reduce, IsCyclicallyReduced}
 use Rattle.ideal_tri.specs.Curves.{IsSameCurves}
 use Rattle.ideal_tri.specs.Triangulations.{IsTriangulation, IsLabel, edge_count}
@@ -20,10 +20,9 @@ use Rattle.tri_atlas.specs.VectorLaws.{MovedLaws}
 use Rattle.tri_atlas.proofs.Letters.{same_or_not, int_eq-same, int_eq-other}
 use Rattle.tri_atlas.proofs.Flips.{inverse_label}
 use Rattle.tri_atlas.proofs.Relabellings.{image_of-inverse, same_edges, label_of_image, relabelling_undone, relabelling_back}
-use Rattle.tri_atlas.proofs.Vectors.Given.{Given, corners_of}
-use Rattle.tri_atlas.proofs.Vectors.Turns.{step_valid}
+use Rattle.tri_atlas.proofs.Vectors.Given.{Given}
 use Rattle.tri_atlas.proofs.Vectors.FlipLaws.{image_of_curves}
-use Rattle.tri_atlas.proofs.Vectors.Relabelled.{moved_vector, moved_state, HasOrigin, origin, weight-image, length-moved, relabel_multicurve, step_moved, valid_moved}
+use Rattle.tri_atlas.proofs.Vectors.Relabelled.{HasOrigin, origin, weight-image, length-moved, relabel_multicurve, step_moved, valid_moved}
 
 -- ---- lists
 
@@ -33,8 +32,7 @@ flat_map-mapped f (run ∷ runs) =
     ap (λ (u : List _). map f run ++ u) (flat_map-mapped f runs) ∙ sym (map-append f run (flat_map (λ r. r) runs))
 
 module _ (g : Given) (before target : List (List ℤ)) (images : List ℤ) (p : IsTriangulation before) (t : IsTriangulation target)
-  (h : IsRelabelling before target images) (w : List ℕ) (m : IsMulticurve before w) where
-
+    (h : IsRelabelling before target images) (w : List ℕ) (m : IsMulticurve before w) where
   abbrev v : List ℕ
   v = map (weight w) (inverse_images images)
 
@@ -74,7 +72,7 @@ module _ (g : Given) (before target : List (List ℤ)) (images : List ℤ) (p : 
   opposite_moved : (q : State) → IsLabel before q.label → opposite v (move q) ≡ move (opposite w q)
   opposite_moved q l =
       ap (λ (y : ℤ). state_at y (weight v (image_of images q.label) - 1 - q.place)) (sym (image_of-inverse images q.label))
-      ∙ ap (λ (n : ℕ). state_at (image_of images (inverse q.label)) (n - 1 - q.place)) (weight-image before target images w q.label h l)
+      ∙ ap (λ (n : ℕ). state_at (image_of images (inverse q.label)) (n - 1 - q.place)) (weight-image before target images w h q.label l)
 
   uses_moved : (q : State) (run : List State) → IsLabel before q.label → OnLabels run → uses v (move q) (map move run) ≡ uses w q run
   uses_moved q run l s =
@@ -88,8 +86,8 @@ module _ (g : Given) (before target : List (List ℤ)) (images : List ℤ) (p : 
   runs_moved q r [] s is = ap move is
   runs_moved q r (o ∷ run) s (at, rest) = (
     ap move at,
-    subst (λ (u : State). Runs target v u (map move run) (move r)) (sym (step_moved g before target images p t h w m q s.is_label))
-        (runs_moved (strand_step before w q) r run (step_valid before w q (corners_of g before w p m) (g.surface.triangles before p) s) rest),
+    subst (λ (u : State). Runs target v u (map move run) (move r)) (sym (step_moved g before target images p t h w q s.is_label))
+        (runs_moved (strand_step before w q) r run ((g.strands before p).stays w q m s) rest),
   )
 
   first_valid : (run : List State) (c : IsClosedRun before w run) → IsStrand before w c.start
@@ -101,7 +99,7 @@ module _ (g : Given) (before target : List (List ℤ)) (images : List ℤ) (p : 
     start = move c.start;
     not_empty = subst (λ (n : ℕ). 0 < n) (sym (length-map run move)) c.not_empty;
     strands = All-map (IsStrand target v) move run
-        (All-weaker (IsStrand before w) (λ (q : State). IsStrand target v (move q)) (valid_moved g before target images p t h w m) run c.strands);
+        (All-weaker (IsStrand before w) (λ (q : State). IsStrand target v (move q)) (valid_moved g before target images p t h w) run c.strands);
     closes = runs_moved c.start c.start run (first_valid run c) c.closes;
   }
 
@@ -122,7 +120,7 @@ module _ (g : Given) (before target : List (List ℤ)) (images : List ℤ) (p : 
       from : HasOrigin before images y → uses v (state_at y i) (flat_map (λ run. run) (map (map move) runs)) ≡ 1
       from o =
           let q : State = state_at o.origin i in
-          let number : weight v y ≡ weight w o.origin = ap (weight v) (sym o.is) ∙ weight-image before target images w o.origin h o.label in
+          let number : weight v y ≡ weight w o.origin = ap (weight v) (sym o.is) ∙ weight-image before target images w h o.origin o.label in
           let s : IsStrand before w q = record { is_label = o.label; within = subst (λ (n : ℕ). i < n) number within } in
           ap (λ (z : ℤ). uses v (state_at z i) (flat_map (λ run. run) (map (map move) runs))) (sym o.is)
           ∙ ap (uses v (move q)) (flat_map-mapped move runs)
@@ -169,8 +167,8 @@ module _ (g : Given) (before target : List (List ℤ)) (images : List ℤ) (p : 
       number : (k : ℕ) → k < edge_count before → weight (map (weight v) (inverse_images (inverse_images images))) (pos k) ≡ weight w (pos k)
       number k below =
           ap (weight (map (weight v) (inverse_images (inverse_images images)))) (sym (relabelling_undone before target images (pos k) h below))
-          ∙ weight-image target before (inverse_images images) v (image_of images (pos k)) back (label_of_image before target images (pos k) h below)
-          ∙ weight-image before target images w (pos k) h below
+          ∙ weight-image target before (inverse_images images) v back (image_of images (pos k)) (label_of_image before target images (pos k) h below)
+          ∙ weight-image before target images w h (pos k) below
 
   curves_moved : (runs after : List (List State)) → IsDrawing before w runs → IsDrawing target v after
       → IsSameCurves (images_under (image_of_letter (relabel images)) (words_of runs)) (words_of after)

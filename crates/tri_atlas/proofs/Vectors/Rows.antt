@@ -101,8 +101,7 @@ cancel_pair x y h = ap (λ (b : Bool). cond b [] (x ∷ (y ∷ []))) (int_eq-sam
 -- ---- from a and from b
 
 module _ (pre : ℤ → List ℤ) (e f a b c d : ℤ) (n : Numbers) (h : IsBalanced n) (f_is : f ≡ inverse e) (p : Prefixes pre e f a b c d)
-  (i : ℕ) (X Y : State) (letters others : List ℤ) where
-
+    (i : ℕ) (X Y : State) (letters others : List ℤ) where
   pub from_a : FirstExit n.ke n.kd n.A n.E n.D i e b c d X letters → SecondExit n.ld n.lc n.D' n.A' n.F n.C' i d b c e Y others
       → Agrees pre a X letters Y others
   from_a (FirstExit.near k at place is) (SecondExit.near l at' place' is') = absurd (omega arith)

@@ -8,11 +8,9 @@ use Rattle.ideal_tri.specs.Triangulations.{IsLabel, triangle_of, next}
 use Rattle.tri_atlas.specs.Moves.{IsFlip}
 use Rattle.tri_atlas.proofs.Letters.{inverse-inverse, edge_of-inverse, two_labels}
 use Rattle.tri_atlas.proofs.Flips.{inverse_label, label_after_flip}
-use Rattle.tri_atlas.proofs.Vectors.Exits.{Quadrilateral}
-use Rattle.tri_atlas.proofs.Vectors.Pairs.{IsApartFrom}
+use Rattle.tri_atlas.proofs.Vectors.Quadrilaterals.{Quadrilateral, IsApartFrom}
 
 module _ (before target : List (List ℤ)) (e a b c d : ℤ) (t : TriangleLaws before) (h : IsFlip before target e a b c d) where
-
   other : IsLabel before (inverse e)
   other = inverse_label before e h.label
 

@@ -10,6 +10,7 @@ returns c = vector_laws (record {
   surface = c.surface_laws.ensures;
   triples = c.triple_laws.ensures;
   flips = c.flip_laws.ensures;
+  corners = c.corner_laws.ensures;
   drawings = c.drawing_laws.ensures;
   strands = c.strand_laws.ensures;
 })
