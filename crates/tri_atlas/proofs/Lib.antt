@@ -11,3 +11,4 @@ pub mod Kept
 pub mod AtlasPaths
 pub mod Growth
 pub mod Ways
+pub mod Vectors

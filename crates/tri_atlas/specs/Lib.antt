@@ -5,4 +5,6 @@ pub mod Arena
 pub mod Paths
 pub mod AtlasLaws
 pub mod Steps
+pub mod MovedVectors
+pub mod VectorLaws
 pub mod inside

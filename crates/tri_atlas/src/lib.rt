@@ -23,12 +23,14 @@
 //! ```
 //!
 //! What contracts see of an atlas and its handles stands in `specs/Arena.antt`, of paths in
-//! `specs/Paths.antt`; moves and their maps stand in `specs/Moves.antt` and `specs/Maps.antt`, and
-//! what is proved of all these in `specs/MapLaws.antt` and `specs/AtlasLaws.antt`. `specs/inside`
-//! serves the private fields and functions alone.
+//! `specs/Paths.antt`; moves and their maps stand in `specs/Moves.antt` and `specs/Maps.antt`, the
+//! vectors of multicurves after moves in `specs/MovedVectors.antt`, and what is proved of all these
+//! in `specs/MapLaws.antt`, `specs/AtlasLaws.antt` and `specs/VectorLaws.antt`: the last has the
+//! theorem of one move and of a path. `specs/inside` serves the private fields and functions alone.
 #![tactic(auto)]
 
 mod atlas;
+mod curve_laws;
 mod handles;
 mod laws;
 mod path;
@@ -37,6 +39,7 @@ mod step;
 mod tests;
 
 pub use atlas::Atlas;
+pub use curve_laws::vector_laws;
 pub use handles::{EdgeId, MoveId, TriId};
 pub use laws::{atlas_laws, map_laws};
 pub use path::Path;

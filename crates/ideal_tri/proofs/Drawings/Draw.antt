@@ -101,10 +101,8 @@ module _ (triples : List (List ℤ)) (w : List ℕ) (given : Setting triples w) 
       let least : AllPass (λ p. leb (strand_number w q) (strand_number w p)) (q ∷ run) =
       All-weaker (λ p. strand_number w start ≤ strand_number w p)
       (λ p. leb (strand_number w q) (strand_number w p) ≡ true)
-      (λ p e. le-leb (strand_number w q) (strand_number w p) (omega (
-        arith,
-        ap (strand_number w) is,
-      ))) (q ∷ run) b.least in (
+      (λ p e. le-leb (strand_number w q) (strand_number w p)
+      (omega (arith, ap (strand_number w) is))) (q ∷ run) b.least in (
         record {
           side = subst (λ (p : State). O.count s p (strands w) ≢ 0) (sym is) (in_strands w b.edge b.place u.within);
           least =

@@ -112,10 +112,8 @@ module _ (triples : List (List ℤ)) (w : List ℕ) (given : Setting triples w) 
           let twice : O.count s (opposite w (opposite w (step p))) run ≡ O.count s (step p) run =
           ap (λ (q : State). O.count s q run) (T.opposite_back triples w (step p) u) in
           let seen : O.count s (opposite w (step p)) (R.back s run) ≢ 0 =
-          λ none. more (omega (
-            arith,
-            R.count-back s (opposite w (step p)) run (T.opposite_valid triples w (step p) u) valid,
-          )) in
+          λ none. more
+          (omega (arith, R.count-back s (opposite w (step p)) run (T.opposite_valid triples w (step p) u) valid)) in
           let from : (step (opposite w (step p))).label ≡ next triples (inverse (inverse (step p).label)) =
           O.All-counted s On (opposite w (step p)) (R.back s run) on seen in
           let back : inverse p.label ≡ next triples (step p).label =
@@ -160,10 +158,8 @@ module _ (triples : List (List ℤ)) (w : List ℕ) (given : Setting triples w) 
   user P q (run ∷ runs) h some =
       elim (cases_eq (L.uses s q run) 0) [
         | inl none ↦
-            user P q runs (All-tail P run runs h) (λ gone. some (omega (
-              arith,
-              L.uses-append s q run (L.joined s runs),
-            )))
+            user P q runs (All-tail P run runs h) (λ gone. some
+            (omega (arith, L.uses-append s q run (L.joined s runs))))
         | inr here ↦ (run, All-head P run runs h, here)
       ]
 

@@ -45,11 +45,8 @@ module _ (triples : List (List ℤ)) (w : List ℕ) where
 
   pub opposite_back : (q : State) → IsStrand triples w q → opposite w (opposite w q) ≡ q
   opposite_back q v =
-      state_same (opposite w (opposite w q)) q (inverse-inverse q.label) (omega (
-        arith,
-        weight-inverse w q.label,
-        v.within,
-      ))
+      state_same (opposite w (opposite w q)) q (inverse-inverse q.label)
+      (omega (arith, weight-inverse w q.label, v.within))
 
   pub opposite_other : (q : State) → IsStrand triples w q → opposite w q ≢ q
   opposite_other q v e = not_own_inverse q.label (sym (ap (λ (p : State). p.label) e))
@@ -122,10 +119,8 @@ module _ (triples : List (List ℤ)) (w : List ℕ) (laws : TriangleLaws triples
             let far : corner (before (before x)) ≤ j = omega (arith, side_before x l, ap corner (before-before x l)) in
             ap (cross triples w) (cross-round x i b)
             ∙ cross-on (before x) j far
-            ∙ state_same (state_at (after (before x)) (weight w (before x) - 1 - j)) q (laws.round x l) (omega (
-              arith,
-              side_before x l,
-            )))
+            ∙ state_same (state_at (after (before x)) (weight w (before x) - 1 - j)) q (laws.round x l)
+            (omega (arith, side_before x l)))
         | inr b ↦
             (let j : ℕ = weight w x - 1 - i in
             let near : j < corner (before (after x)) =
