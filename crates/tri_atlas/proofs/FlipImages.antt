@@ -61,7 +61,7 @@ module _ (laws : LowerLaws) where
       ]
 
   -- the backward flip puts the inverse before each letter
-  step_before-inverse : (e b d x : ℤ) → step_before (inverse e) b d x ≡ inverse_word (step_before e b d x)
+  pub step_before-inverse : (e b d x : ℤ) → step_before (inverse e) b d x ≡ inverse_word (step_before e b d x)
   step_before-inverse e b d x = go (side_of_flip b d x)
     where
       go : Side b d x → step_before (inverse e) b d x ≡ inverse_word (step_before e b d x)

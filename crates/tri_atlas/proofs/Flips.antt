@@ -69,7 +69,7 @@ module _ (laws : LowerLaws) where
       → length target ≡ length before
   flip_length before target e a b c d h = ap length h.result ∙ length-flipped before e
 
-  flip_edges : (before target : List (List ℤ)) (e a b c d : ℤ) → IsFlip before target e a b c d
+  pub flip_edges : (before target : List (List ℤ)) (e a b c d : ℤ) → IsFlip before target e a b c d
       → edge_count target ≡ edge_count before
   flip_edges before target e a b c d h = ap (λ (n : ℕ). 3 * n / 2) (flip_length before target e a b c d h)
 

@@ -53,7 +53,7 @@ module _ (laws : LowerLaws) where
   IsMove-back before target (relabel images) p t h =
       laws.relabellings.back before target images p t h
 
-  image_undone : (before target : List (List ℤ)) (images : List ℤ) (x : ℤ) → IsRelabelling before target images
+  pub image_undone : (before target : List (List ℤ)) (images : List ℤ) (x : ℤ) → IsRelabelling before target images
       → IsLabel before x
       → image_of (inverse_images images) (image_of images x) ≡ x
   image_undone before target images x h l =

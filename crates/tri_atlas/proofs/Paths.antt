@@ -23,11 +23,11 @@ use Rattle.tri_atlas.proofs.Moves.{image_of_letter-odd, image_of_letter-labels, 
 
 -- ---- substitutions
 
-flat_map-identity : (w : List ℤ) → flat_map identity w ≡ w
+pub flat_map-identity : (w : List ℤ) → flat_map identity w ≡ w
 flat_map-identity [] = refl
 flat_map-identity (x ∷ w) = ap (λ (z : List ℤ). x ∷ z) (flat_map-identity w)
 
-flat_map-same : (f g : ℤ → List ℤ) (w : List ℤ) → ((x : ℤ) → f x ≡ g x) → flat_map f w ≡ flat_map g w
+pub flat_map-same : (f g : ℤ → List ℤ) (w : List ℤ) → ((x : ℤ) → f x ≡ g x) → flat_map f w ≡ flat_map g w
 flat_map-same f g [] e = refl
 flat_map-same f g (x ∷ w) e =
     ap (λ (z : List ℤ). z ++ flat_map f w) (e x) ∙ ap (λ (z : List ℤ). g x ++ z) (flat_map-same f g w e)
@@ -132,7 +132,7 @@ module _ (laws : LowerLaws) where
       ∙ flat_map-after laws identity (image_of_letter n) (image_of_letter m x)
       ∙ ap (λ (w : List ℤ). reduce (flat_map (image_of_letter n) w)) (flat_map-identity (image_of_letter m x))
 
-  back_along-cons : (m : Move) (moves : List Move) → back_along (m ∷ moves) ≡ back_along moves ++ (back_of m ∷ [])
+  pub back_along-cons : (m : Move) (moves : List Move) → back_along (m ∷ moves) ≡ back_along moves ++ (back_of m ∷ [])
   back_along-cons m moves = reverse-append (back_of m ∷ []) (map back_of moves)
 
   pub path_undone : (before target : List (List ℤ)) (moves : List Move) (x : ℤ) → IsTriangulation before
