@@ -1,0 +1,3 @@
+pub mod Matrices
+pub mod MatrixLaws
+pub mod inside

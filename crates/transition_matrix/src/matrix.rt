@@ -1,0 +1,77 @@
+//! Matrices of counts.
+ghost use Rattle.std.specs.Prelude.{◌≡◌, ◌≢◌, ◌<◌, ◌≤◌, ◌+◌, ◌*◌, ℕ, [], length, map, replicate, count_by, nat_eq, sum_by, slice_index, All, IfOk};
+ghost use Rattle.transition_matrix.specs.Matrices.{IsCountOf, entry};
+
+use crate::memory::Memory;
+use std::alloc::Global;
+use std::marker::Model;
+
+/// A square matrix of counts, such as the transition matrix of a carried train track.
+#[derive(Drop)]
+pub struct Matrix {
+    size: usize,
+    entries: Vec<u64>,
+}
+
+impl Model for Matrix {
+    ghost use Rattle.std.specs.Prelude.{◌≡◌, ◌*◌, length};
+    ghost use Rattle.transition_matrix.specs.Matrices.{Square};
+
+    ghost Value = { Square };
+
+    ghost view = { λ a. record { size = a.size; entries = a.entries.items } };
+
+    ghost invariant = { λ a. length a.entries.items ≡ a.size * a.size };
+}
+
+impl Matrix {
+    /// The matrix with n rows and columns that counts, in row i and column j, how often i stands in
+    /// the list `columns[j]`. The lists have at most 262,144 entries in all.
+    pub fn from_columns(alloc: Global, n: usize, columns: &[Vec<u32>]) -> Result<Matrix, Memory>
+        requires some { 0 < n }
+        requires count { length columns.now ≡ n }
+        requires entries { All (λ c. All (λ i. i < n) c.items) columns.now }
+        requires few { sum_by (λ c. length c.items) columns.now ≤ 262144 }
+        ensures { IfOk result (IsCountOf (map (λ c. c.items) columns.now)) }
+    {
+        let places = n.checked_mul(n).ok_or(Memory)?;
+        let mut entries = vec![in alloc; 0; places]?;
+        for j in 0..n {
+            count_column(&mut entries, n, j, &columns[j]);
+        }
+        Ok(Matrix { size: n, entries })
+    }
+
+    /// The number of rows, which is that of the columns.
+    pub fn size(&self) -> usize
+        ensures { result ≡ self.now.size }
+    {
+        self.size
+    }
+
+    /// The entry in row i and column j, counted from 0.
+    pub fn entry(&self, i: usize, j: usize) -> u64
+        requires row { i < self.now.size }
+        requires column { j < self.now.size }
+        ensures { result ≡ entry self.now i j }
+    {
+        self.entries[i * self.size + j]
+    }
+}
+
+/// Counts the entries of a list in one column of a matrix with n rows, where it is zero before.
+fn count_column(entries: &mut [u64], n: usize, j: usize, column: &[u32])
+    requires whole { length entries.old ≡ n * n }
+    requires within { j < n }
+    requires rows { All (λ i. i < n) column.now }
+    requires few { length column.now ≤ 262144 }
+    requires zero { (i : ℕ) → i < n → slice_index entries.old (i * n + j) ≡ 0 }
+    ensures counted { (i : ℕ) → i < n
+        → slice_index entries.new (i * n + j) ≡ count_by (nat_eq i) column.now }
+    ensures others { (i k : ℕ) → i < n → k < n → k ≢ j
+        → slice_index entries.new (i * n + k) ≡ slice_index entries.old (i * n + k) }
+{
+    for i in column {
+        entries[*i as usize * n + j] += 1;
+    }
+}
