@@ -21,9 +21,9 @@ pub counted_next : (n : ℕ) (columns : List (List ℕ)) (j : ℕ) (es new : Lis
 counted_next n columns j es new within before same here others = record {
   whole = same ∙ before.whole;
   counted = λ i k row column. elim (cases_eq k j) [
-      inl e ↦ let P : ℕ → Type 0 = λ l. slice_index new (i * n + l) ≡ count_by (nat_eq i) (slice_index_or columns l []) in
-          subst P (sym e) (here i row)
+    | inl e ↦ let P : ℕ → Type 0 = λ l. slice_index new (i * n + l) ≡ count_by (nat_eq i) (slice_index_or columns l []) in
+        subst P (sym e) (here i row)
     | inr apart ↦ others i k row (omega arith) apart ∙ before.counted i k row (omega arith)
-    ];
+  ];
   zero = λ i k row after column. others i k row column (λ e. omega arith) ∙ before.zero i k row (omega arith) column;
 }

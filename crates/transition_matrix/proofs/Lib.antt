@@ -2,3 +2,4 @@ pub mod Sums
 pub mod Powers
 pub mod Places
 pub mod Counted
+pub mod BitTables

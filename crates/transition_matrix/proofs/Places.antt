@@ -18,10 +18,10 @@ place_within n i j row column = let h : i * n + j < n * n + 0 = lower_row n i n 
 pub same_row : (n i c j k : ℕ) → j < n → k < n → i * n + j ≡ c * n + k → i ≡ c
 same_row n i c j k left right same =
     elim (cases_order i c) [
-      inl e ↦ e
-    | inr apart ↦ elim apart [
-        inl lower ↦ absurd (omega (arith, lower_row n i c j k left lower))
-      | inr upper ↦ absurd (omega (arith, lower_row n c i k j right upper))
+      | inl e ↦ e
+      | inr apart ↦ elim apart [
+        | inl lower ↦ absurd (omega (arith, lower_row n i c j k left lower))
+        | inr upper ↦ absurd (omega (arith, lower_row n c i k j right upper))
       ]
     ]
 
@@ -34,7 +34,6 @@ same_column n i c j k left right same =
 
 module _ (n j c k : ℕ) (es : List ℕ) (column : List ℕ) (within : j < n) (row : c < n) (some : k < length column)
     (is : slice_index column k ≡ c) (whole : length es ≡ n * n) where
-
   abbrev counted_entries : List ℕ
   counted_entries = slice_set es (c * n + j) (slice_index es (c * n + j) + 1)
 
@@ -42,18 +41,18 @@ module _ (n j c k : ℕ) (es : List ℕ) (column : List ℕ) (within : j < n) (r
       → (i : ℕ) → i < n → slice_index counted_entries (i * n + j) ≡ count_by (nat_eq i) (take (k + 1) column)
   counted_more before i low =
       elim (cases_eq i c) [
-        inl e ↦
-          let here : slice_index counted_entries (c * n + j) ≡ slice_index es (c * n + j) + 1
-              = get_or-set_same es (c * n + j) _ 0 (omega (arith, place_within n c j row within)) in
-          let yes : nat_eq i (slice_index column k) ≡ true = eq-eqb i _ (e ∙ sym is) in
-          let more = count_by_more_yes (nat_eq i) column k 0 some yes in
-          let P : ℕ → Type 0 = λ r. slice_index counted_entries (r * n + j) ≡ slice_index es (r * n + j) + 1 in
-          subst P (sym e) here ∙ ap (λ (m : ℕ). m + 1) (before i low) ∙ sym more
-      | inr apart ↦
-          let other = get_or-set_other es (c * n + j) (i * n + j) (slice_index es (c * n + j) + 1) 0
-              (λ e. apart (same_row n i c j j within within e)) in
-          let no : nat_eq i (slice_index column k) ≡ false = ne_eqb i _ (λ e. apart (e ∙ is)) in
-          other ∙ before i low ∙ sym (count_by_more_no (nat_eq i) column k 0 some no)
+        | inl e ↦
+            let here : slice_index counted_entries (c * n + j) ≡ slice_index es (c * n + j) + 1
+            = get_or-set_same es (c * n + j) _ 0 (omega (arith, place_within n c j row within)) in
+            let yes : nat_eq i (slice_index column k) ≡ true = eq-eqb i _ (e ∙ sym is) in
+            let more = count_by_more_yes (nat_eq i) column k 0 some yes in
+            let P : ℕ → Type 0 = λ r. slice_index counted_entries (r * n + j) ≡ slice_index es (r * n + j) + 1 in
+            subst P (sym e) here ∙ ap (λ (m : ℕ). m + 1) (before i low) ∙ sym more
+        | inr apart ↦
+            let other = get_or-set_other es (c * n + j) (i * n + j) (slice_index es (c * n + j) + 1) 0
+            (λ e. apart (same_row n i c j j within within e)) in
+            let no : nat_eq i (slice_index column k) ≡ false = ne_eqb i _ (λ e. apart (e ∙ is)) in
+            other ∙ before i low ∙ sym (count_by_more_no (nat_eq i) column k 0 some no)
       ]
 
   pub counted_others : (i l : ℕ) → l < n → l ≢ j → slice_index counted_entries (i * n + l) ≡ slice_index es (i * n + l)

@@ -15,6 +15,7 @@
 //! ```
 #![tactic(auto)]
 
+mod bits;
 mod laws;
 mod matrix;
 mod memory;

@@ -15,13 +15,14 @@ overflow_add-entries-in-loop-i c =
 
 pub loop-i-preserved : goal.loop-i-preserved
 loop-i-preserved c =
-    let row = c.requires.rows c.loop-i.i-index 0 c.loop-i-test.true in
-    (counted_more c.args.n c.args.j _ c.loop-i.i-index c.loop-i.entries c.args.column.now
-     c.requires.within row c.loop-i-test.true refl (omega arith) c.loop-i.invariant.0,
-     λ i k low column apart.
-         counted_others c.args.n c.args.j _ c.loop-i.i-index c.loop-i.entries c.args.column.now
-         c.requires.within row c.loop-i-test.true refl (omega arith) i k column apart
-         ∙ c.loop-i.invariant.1 i k low column apart)
+    let row = c.requires.rows c.loop-i.i-index 0 c.loop-i-test.true in (
+      counted_more c.args.n c.args.j _ c.loop-i.i-index c.loop-i.entries c.args.column.now
+          c.requires.within row c.loop-i-test.true refl (omega arith) c.loop-i.invariant.0,
+      λ i k low column apart.
+          counted_others c.args.n c.args.j _ c.loop-i.i-index c.loop-i.entries c.args.column.now
+          c.requires.within row c.loop-i-test.true refl (omega arith) i k column apart
+          ∙ c.loop-i.invariant.1 i k low column apart,
+    )
 
 pub returns-clause-counted : goal.returns-clause-counted
 returns-clause-counted c i low =
