@@ -49,18 +49,18 @@ set_beside width words i j k within same apart =
     let at : ℕ = i * width + j / 64 in
     let word = get_or-set_same words at (with_bit (slice_index words at) j) 0 within in
     let P : ℕ → Type 0 = λ s. nat_eq (bit_at (slice_index (set_in width words i j) (i * width + s)) (k % 64)) 1
-        ≡ nat_eq (bit_at (slice_index words (i * width + s)) (k % 64)) 1 in
+    ≡ nat_eq (bit_at (slice_index words (i * width + s)) (k % 64)) 1 in
     let here : P (j / 64) = ap (λ (n : ℕ). nat_eq n 1) (ap (λ (n : ℕ). bit_at n (k % 64)) word
-        ∙ bit_at_set_other w64 (slice_index words at) (j % 64) (low_bit j) (k % 64)
-        (λ e. apart (same_column_of_bits j k same e))) in
+    ∙ bit_at_set_other w64 (slice_index words at) (j % 64) (low_bit j) (k % 64)
+    (λ e. apart (same_column_of_bits j k same e))) in
     subst P (sym same) here
 
 pub set_columns : (width : ℕ) (words : List ℕ) (i j k : ℕ) → i * width + j / 64 < length words → k ≢ j
     → bit width (set_in width words i j) i k ≡ bit width words i k
 set_columns width words i j k within apart = elim (cases_eq (k / 64) (j / 64)) [
-      inl same ↦ set_beside width words i j k within same apart
-    | inr other ↦ set_elsewhere width words i j i k (λ e. other (omega arith))
-    ]
+  | inl same ↦ set_beside width words i j k within same apart
+  | inr other ↦ set_elsewhere width words i j i k (λ e. other (omega arith))
+]
 
 word_within : (width j : ℕ) → j < width * 64 → j / 64 < width
 word_within width j within = omega arith
@@ -104,12 +104,12 @@ other_row width words new i k j apart column before after =
     let word = word_within width j column in
     let at : ℕ = k * width + j / 64 in
     let same : slice_index new at ≡ slice_index words at = elim (cases_order k i) [
-          inl e ↦ absurd (apart e)
-        | inr which ↦ elim which [
-            inl lower ↦ before at (omega (arith, lower_row width k i (j / 64) 0 word lower))
-          | inr upper ↦ after at (omega (arith, next_row width i k upper))
-          ]
-        ] in
+      | inl e ↦ absurd (apart e)
+      | inr which ↦ elim which [
+        | inl lower ↦ before at (omega (arith, lower_row width k i (j / 64) 0 word lower))
+        | inr upper ↦ after at (omega (arith, next_row width i k upper))
+      ]
+    ] in
     ap (λ (n : ℕ). nat_eq (bit_at n (j % 64)) 1) same
   where
     next_row : (width i k : ℕ) → i < k → i * width + width ≤ k * width

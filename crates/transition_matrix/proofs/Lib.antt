@@ -3,3 +3,5 @@ pub mod Powers
 pub mod Places
 pub mod Counted
 pub mod BitTables
+pub mod Signs
+pub mod Exponents

@@ -19,7 +19,9 @@ mod bits;
 mod laws;
 mod matrix;
 mod memory;
+mod scratch;
 
 pub use laws::matrix_laws;
 pub use matrix::Matrix;
 pub use memory::Memory;
+pub use scratch::Scratch;

@@ -1,8 +1,11 @@
 //! Matrices of counts.
-ghost use Rattle.std.specs.Prelude.{◌≡◌, ◌≢◌, ◌<◌, ◌≤◌, ◌+◌, ◌*◌, ℕ, [], length, map, replicate, count_by, nat_eq, sum_by, slice_index, All, IfOk};
-ghost use Rattle.transition_matrix.specs.Matrices.{IsCountOf, entry};
+ghost use Rattle.std.specs.Prelude.{◌≡◌, ◌≢◌, ◌<◌, ◌≤◌, ◌+◌, ◌*◌, ℕ, [], length, map, replicate, count_by, nat_eq, sum_by, slice_index, nat_lt, All, IfOk, IfSome, IfNone};
+ghost use Rattle.transition_matrix.specs.Matrices.{IsCountOf, IsLeastExponent, IsPositivePower, entry};
+ghost use Rattle.transition_matrix.specs.inside.Bits.{bit, IsTable};
 
+use crate::bits::{is_full, multiply, set_bit};
 use crate::memory::Memory;
+use crate::scratch::Scratch;
 use std::alloc::Global;
 use std::marker::Model;
 
@@ -74,4 +77,76 @@ fn count_column(entries: &mut [u64], n: usize, j: usize, column: &[u32])
     for i in column {
         entries[*i as usize * n + j] += 1;
     }
+}
+
+impl Matrix {
+    /// The least number from 1 to the limit for which that power of the matrix has all entries positive
+    /// (a matrix that has one is primitive), and none exactly where there is none up to the limit. The
+    /// room is for a matrix of this size. Takes no memory.
+    pub fn primitive_exponent(&self, scratch: &mut Scratch, limit: u32) -> Option<u32>
+        requires { scratch.old ≡ self.now.size }
+        ensures some { IfSome result (IsLeastExponent self.now) }
+        ensures within { IfSome result (λ k. k ≤ limit) }
+        ensures none { IfNone result ((k : ℕ) → 0 < k → k ≤ limit → ¬ IsPositivePower self.now k) }
+        ensures room { scratch.new ≡ scratch.old }
+    {
+        let width = scratch.width;
+        let signs = scratch.matrix.as_mut_slice();
+        write_signs(self, signs, width);
+        least_exponent(
+            self,
+            signs,
+            &mut scratch.power,
+            &mut scratch.next,
+            width,
+            limit,
+        )
+    }
+}
+
+/// Writes down of each entry of a matrix whether it is positive.
+fn write_signs(matrix: &Matrix, words: &mut [u64], width: usize)
+    requires { IsTable matrix.now.size width words.old }
+    ensures { (i j : ℕ) → i < matrix.now.size → j < matrix.now.size
+        → bit width words.new i j ≡ nat_lt 0 (entry matrix.now i j) }
+{
+    words.fill(0);
+    for i in 0..matrix.size() {
+        for j in 0..matrix.size() {
+            if matrix.entry(i, j) > 0 {
+                set_bit(words, width, i, j);
+            }
+        }
+    }
+}
+
+/// The least exponent of a matrix up to a limit, where its signs are written down, with room for two
+/// more tables.
+fn least_exponent(
+    matrix: &Matrix,
+    signs: &[u64],
+    power: &mut [u64],
+    next: &mut [u64],
+    width: usize,
+    limit: u32,
+) -> Option<u32>
+    requires signs { (i j : ℕ) → i < matrix.now.size → j < matrix.now.size
+        → bit width signs.now i j ≡ nat_lt 0 (entry matrix.now i j) }
+    requires table { IsTable matrix.now.size width signs.now }
+    requires power { IsTable matrix.now.size width power.old }
+    requires next { IsTable matrix.now.size width next.old }
+    ensures some { IfSome result (IsLeastExponent matrix.now) }
+    ensures within { IfSome result (λ k. k ≤ limit) }
+    ensures none { IfNone result ((k : ℕ) → 0 < k → k ≤ limit → ¬ IsPositivePower matrix.now k) }
+{
+    let n = matrix.size();
+    power.copy_from_slice(signs);
+    for k in 0..limit {
+        if is_full(power, n, width) {
+            return Some(k + 1);
+        }
+        multiply(next, power, signs, n, width);
+        power.copy_from_slice(next);
+    }
+    None
 }
