@@ -5,3 +5,5 @@ pub mod Counted
 pub mod BitTables
 pub mod Signs
 pub mod Exponents
+pub mod SumLaws
+pub mod Growing

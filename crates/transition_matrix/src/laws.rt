@@ -1,7 +1,13 @@
-//! What is proved of the definitions that the contracts cite.
-ghost use Rattle.transition_matrix.specs.MatrixLaws.{MatrixLaws};
+//! What is proved of the definitions that the contracts cite. The functions do nothing: their contracts
+//! are the laws.
+ghost use Rattle.transition_matrix.specs.MatrixLaws.{MatrixLaws, GrowthLaws};
 
-/// What is proved of matrices and their powers. It does nothing: its contract is the laws.
+/// What is proved of matrices and their powers.
 pub fn matrix_laws()
     ensures { MatrixLaws }
+{}
+
+/// What bounds of the growth of a matrix say of columns under its powers.
+pub fn growth_laws()
+    ensures { GrowthLaws }
 {}

@@ -21,7 +21,7 @@ mod matrix;
 mod memory;
 mod scratch;
 
-pub use laws::matrix_laws;
+pub use laws::{growth_laws, matrix_laws};
 pub use matrix::Matrix;
 pub use memory::Memory;
 pub use scratch::Scratch;
