@@ -7,3 +7,4 @@ pub mod Signs
 pub mod Exponents
 pub mod SumLaws
 pub mod Growing
+pub mod ColumnSums

@@ -8,13 +8,13 @@ use Rattle.transition_matrix.proofs.Sums.{sum_below-one, positive_term, positive
 
 -- ---- the first power
 
-abbrev unit : ℕ → ℕ → ℕ
+abbrev pub unit : ℕ → ℕ → ℕ
 unit i j = if nat_eq i j then 1 else 0
 
-unit_same : (i : ℕ) → unit i i ≡ 1
+pub unit_same : (i : ℕ) → unit i i ≡ 1
 unit_same i = ap (λ (b : Bool). if b then 1 else 0) (eq-eqb i i refl)
 
-unit_other : (i j : ℕ) → i ≢ j → unit i j ≡ 0
+pub unit_other : (i j : ℕ) → i ≢ j → unit i j ≡ 0
 unit_other i j apart = ap (λ (b : Bool). if b then 1 else 0) (ne_eqb i j apart)
 
 pub first_power : (m : Square) (i j : ℕ) → i < m.size → power m 1 i j ≡ entry m i j

@@ -1,10 +1,14 @@
 -- Bounds of the growth of a matrix, by a row that it stretches in every entry, and columns under its powers.
 use Rattle.std.specs.Prelude.{◌≡◌, ◌<◌, ◌≤◌, ◌*◌, ◌^◌, ℕ, zero, suc, List, length, slice_index}
-use Rattle.transition_matrix.specs.Matrices.{Square, entry, sum_below}
+use Rattle.transition_matrix.specs.Matrices.{Square, entry, power, sum_below}
 
 -- the row times the matrix
 abbrev pub times : Square → (ℕ → ℕ) → ℕ → ℕ
 times m u j = sum_below m.size (λ i. u i * entry m i j)
+
+-- the row of ones times the j-th power of the matrix: the column sums of the power
+abbrev pub column_sum : Square → ℕ → ℕ → ℕ
+column_sum m j i = sum_below m.size (λ l. power m j l i)
 
 -- the matrix times the column
 abbrev pub applied : Square → (ℕ → ℕ) → ℕ → ℕ

@@ -1,10 +1,12 @@
 //! What is proved of the definitions that the contracts cite. The functions do nothing: their contracts
 //! are the laws.
-ghost use Rattle.transition_matrix.specs.MatrixLaws.{MatrixLaws, GrowthLaws};
+ghost use Rattle.transition_matrix.specs.MatrixLaws.{MatrixLaws, SumLaws, ColumnSumLaws, GrowthLaws};
 
-/// What is proved of matrices and their powers.
+/// What is proved of sums, of matrices and their powers, and of their column sums.
 pub fn matrix_laws()
-    ensures { MatrixLaws }
+    ensures powers { MatrixLaws }
+    ensures sums { SumLaws }
+    ensures column_sums { ColumnSumLaws }
 {}
 
 /// What bounds of the growth of a matrix say of columns under its powers.
