@@ -17,9 +17,9 @@ mul-lt-mul a b h k first second =
 -- what is smaller times a number comes from what is smaller
 pub cancel_lt : (a b c : ℕ) → a * c < b * c → a < b
 cancel_lt a b c less = elim (cases_lt a b) [
-      inl h ↦ h
-    | inr over ↦ absurd (let h : b * c ≤ a * c = mul-le-mul_right c over in omega arith)
-    ]
+  | inl h ↦ h
+  | inr over ↦ absurd (let h : b * c ≤ a * c = mul-le-mul_right c over in omega arith)
+]
 
 pub swap_last : (a b c : ℕ) → a * b * c ≡ a * c * b
 swap_last a b c = mul_assoc a b c ∙ ap (λ (n : ℕ). a * n) (mul_comm b c) ∙ sym (mul_assoc a c b)

@@ -24,16 +24,16 @@ smaller_ratio n v u pair before positive less =
     let Q : ℕ → Type 0 = λ a. v n * u p < a * u n in
     let here : v n * u p < v p * u n = subst Q before.above (subst P before.below less) in
     let strictly : (k : ℕ) → k < n → v n * u k < v k * u n =
-        λ k low. ratio_lt-le (v n) (u n) (v p) (u p) (v k) (u k) (positive k low) here (before.least k low) in
+    λ k low. ratio_lt-le (v n) (u n) (v p) (u p) (v k) (u k) (positive k low) here (before.least k low) in
     record {
       place = n;
       within = omega arith;
       above = refl;
       below = refl;
       least = λ k low. elim (cases_eq k n) [
-          inl e ↦ let R : ℕ → Type 0 = λ i. v n * u i ≤ v i * u n in subst R (sym e) (omega arith)
+        | inl e ↦ let R : ℕ → Type 0 = λ i. v n * u i ≤ v i * u n in subst R (sym e) (omega arith)
         | inr apart ↦ let h = strictly k (omega arith) in omega arith
-        ];
+      ];
       first = strictly;
     }
 
@@ -51,8 +51,8 @@ kept_ratio n v u pair before most =
       above = before.above;
       below = before.below;
       least = λ k low. elim (cases_eq k n) [
-          inl e ↦ let R : ℕ → Type 0 = λ i. v p * u i ≤ v i * u p in subst R (sym e) here
+        | inl e ↦ let R : ℕ → Type 0 = λ i. v p * u i ≤ v i * u p in subst R (sym e) here
         | inr apart ↦ before.least k (omega arith)
-        ];
+      ];
       first = before.first;
     }

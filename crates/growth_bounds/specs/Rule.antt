@@ -1,12 +1,9 @@
 -- The rule for the bounds that are printed: the row of column sums of the first power of the matrix from the fourth on
 -- that stays small, is positive, and grows in every entry; and the least and the greatest ratio of growth.
 use Rattle.std.specs.Prelude.{◌≡◌, ◌<◌, ◌≤◌, ◌*◌, ◌^◌, ℕ, suc, List, length, slice_index}
-use Rattle.transition_matrix.specs.Matrices.{Square, power, sum_below}
+use Rattle.transition_matrix.specs.Bounds.{column_sum}
+use Rattle.transition_matrix.specs.Matrices.{Square}
 use Rattle.growth_bounds.specs.declared.rule.GrowthBounds.{GrowthBounds}
-
--- the row of ones times the j-th power of the matrix: its column sums
-abbrev pub row : Square → ℕ → ℕ → ℕ
-row m j i = sum_below m.size (λ l. power m j l i)
 
 -- entries of the rows stay below this
 abbrev pub row_limit : ℕ
@@ -14,10 +11,10 @@ row_limit = 2 ^ 63
 
 -- the row and the next one stay below the limit, the row is positive, and the next one is greater in every entry
 pub record Grows (m : Square) (j : ℕ) : Type 0 where
-  pub positive : (i : ℕ) → i < m.size → 0 < row m j i
-  pub small : (i : ℕ) → i < m.size → row m j i < row_limit
-  pub next_small : (i : ℕ) → i < m.size → row m (suc j) i < row_limit
-  pub greater : (i : ℕ) → i < m.size → row m j i < row m (suc j) i
+  pub positive : (i : ℕ) → i < m.size → 0 < column_sum m j i
+  pub small : (i : ℕ) → i < m.size → column_sum m j i < row_limit
+  pub next_small : (i : ℕ) → i < m.size → column_sum m (suc j) i < row_limit
+  pub greater : (i : ℕ) → i < m.size → column_sum m j i < column_sum m (suc j) i
 
 -- j is the first number from 4 to 64 at which the row grows
 pub record IsFirstGrowth (m : Square) (j : ℕ) : Type 0 where
@@ -44,6 +41,6 @@ pub record IsRuledBy (m : Square) (bounds : GrowthBounds) : Type 0 where
   pub number : ℕ
   pub first : IsFirstGrowth m number
   pub size : length bounds.u.items ≡ m.size
-  pub row_is : (i : ℕ) → i < m.size → slice_index bounds.u.items i ≡ row m number i
-  pub low : IsLeastRatio m.size (row m (suc number)) (row m number) bounds.low
-  pub high : IsLeastRatio m.size (row m number) (row m (suc number)) (turned bounds.high)
+  pub row_is : (i : ℕ) → i < m.size → slice_index bounds.u.items i ≡ column_sum m number i
+  pub low : IsLeastRatio m.size (column_sum m (suc number)) (column_sum m number) bounds.low
+  pub high : IsLeastRatio m.size (column_sum m number) (column_sum m (suc number)) (turned bounds.high)

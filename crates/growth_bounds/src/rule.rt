@@ -1,12 +1,13 @@
 //! The rule for bounds.
-ghost use Rattle.std.specs.Prelude.{◌≡◌, ◌<◌, ◌≤◌, ◌+◌, ◌*◌, ◌^◌, ◌↔◌, ℕ, length, slice_index, All, IsTrue, false, IfOk, IfSome, IfNone, MatchOption};
+ghost use Rattle.std.specs.Prelude.{◌≡◌, ◌<◌, ◌≤◌, ◌+◌, ◌*◌, ◌^◌, ◌↔◌, ℕ, length, slice_index, All, IsTrue, true, false, IfOk, IfSome, IfNone, MatchOption};
 ghost use Rattle.transition_matrix.specs.Matrices.{entry, sum_below};
 ghost use Rattle.transition_matrix.specs.Bounds.{times, IsBounds};
-ghost use Rattle.growth_bounds.specs.Rule.{Grows, IsRuledBy, row_limit};
+ghost use Rattle.growth_bounds.specs.Rule.{Grows, IsRuledBy};
+ghost use Rattle.growth_bounds.specs.inside.Reached.{IsFound, IsGrowing};
 
 use crate::ratio::least_ratio;
 use std::alloc::Global;
-use transition_matrix::{Matrix, Memory};
+use transition_matrix::{Matrix, Memory, matrix_laws};
 
 /// A row and two ratios that bound the growth of a matrix.
 #[derive(Drop)]
@@ -41,22 +42,36 @@ pub fn bounds(alloc: Global, m: &Matrix) -> Result<Option<GrowthBounds>, Memory>
     let n = m.size();
     let mut u = vec![in alloc; 1u64; n]?;
     let mut v = vec![in alloc; 0u64; n]?;
-    for j in 0..=LAST {
-        if !multiply(m, &u, &mut v) {
-            return Ok(None);
-        }
-        if j >= FIRST && is_growing(&u, &v) {
-            let low = least_ratio(&v, &u);
-            let (below, above) = least_ratio(&u, &v);
-            return Ok(Some(GrowthBounds {
-                u,
-                low,
-                high: (above, below),
-            }));
-        }
-        u.as_mut_slice().copy_from_slice(&v);
+    if !find_growth(m, &mut u, &mut v) {
+        return Ok(None);
     }
-    Ok(None)
+    let low = least_ratio(&v, &u);
+    let (below, above) = least_ratio(&u, &v);
+    Ok(Some(GrowthBounds {
+        u,
+        low,
+        high: (above, below),
+    }))
+}
+
+/// Looks for the first row that grows, from the row of ones on; the second row is the next one.
+fn find_growth(m: &Matrix, u: &mut [u64], v: &mut [u64]) -> bool
+    requires size { (length u.old ≡ m.now.size) × (length v.old ≡ m.now.size) }
+    requires ones { (i : ℕ) → i < m.now.size → slice_index u.old i ≡ 1 }
+    ensures found { result ≡ true → IsFound m.now u.new v.new }
+    ensures none { result ≡ false → (j : ℕ) → 4 ≤ j → j ≤ 64 → ¬ Grows m.now j }
+{
+    matrix_laws();
+    for j in 0..LAST + 1 {
+        if !multiply(m, u, v) {
+            return false;
+        }
+        if j >= FIRST && is_growing(u, v) {
+            return true;
+        }
+        u.copy_from_slice(v);
+    }
+    false
 }
 
 /// The row times the matrix at one place, where it is below 2^63. The row's entries are below that.
@@ -67,6 +82,7 @@ fn product_at(m: &Matrix, u: &[u64], j: usize) -> Option<u64>
     ensures some { IfSome result (λ s. (s ≡ times m.now (slice_index u.now) j) × (s < 2 ^ 63)) }
     ensures none { IfNone result (2 ^ 63 ≤ times m.now (slice_index u.now) j) }
 {
+    matrix_laws();
     let mut sum: u128 = 0;
     for i in 0..m.size() {
         sum += u128::from(u[i]) * u128::from(m.entry(i, j));
@@ -81,7 +97,7 @@ fn product_at(m: &Matrix, u: &[u64], j: usize) -> Option<u64>
 fn multiply(m: &Matrix, u: &[u64], v: &mut [u64]) -> bool
     requires size { (length u.now ≡ m.now.size) × (length v.old ≡ m.now.size) }
     requires small { All (λ n. n < 2 ^ 63) u.now }
-    ensures written { IsTrue result → (i : ℕ) → i < m.now.size
+    ensures written { result ≡ true → (i : ℕ) → i < m.now.size
         → (slice_index v.new i ≡ times m.now (slice_index u.now) i) × (slice_index v.new i < 2 ^ 63) }
     ensures over { result ≡ false → (i : ℕ) × (i < m.now.size) × (2 ^ 63 ≤ times m.now (slice_index u.now) i) }
 {
@@ -97,7 +113,7 @@ fn multiply(m: &Matrix, u: &[u64], v: &mut [u64]) -> bool
 /// Whether the first row is positive and the second is greater in every entry.
 fn is_growing(u: &[u64], v: &[u64]) -> bool
     requires { length v.now ≡ length u.now }
-    ensures { IsTrue result ↔ ((i : ℕ) → i < length u.now → (0 < slice_index u.now i) × (slice_index u.now i < slice_index v.now i)) }
+    ensures { IsTrue result ↔ IsGrowing u.now v.now }
 {
     for i in 0..u.len() {
         if u[i] == 0 || v[i] <= u[i] {

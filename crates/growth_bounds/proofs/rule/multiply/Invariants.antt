@@ -1,8 +1,7 @@
-use Rattle.std.proofs.Common.{◌≡◌, ◌<◌, ◌≤◌, ◌+◌, ◌*◌, ◌^◌, ◌↔◌, ℕ, length, slice_index, All, IsTrue, false, IfOk, IfSome, IfNone, MatchOption, ◌-◌}
-use Rattle.transition_matrix.specs.Matrices.{entry, sum_below}
-use Rattle.transition_matrix.specs.Bounds.{times, IsBounds}
-use Rattle.growth_bounds.specs.Rule.{Grows, IsRuledBy, row_limit}
+use Rattle.std.proofs.Common.{◌≡◌, ◌<◌, ◌^◌, ℕ, slice_index}
+use Rattle.transition_matrix.specs.Bounds.{times}
 use Rattle.growth_bounds.proofs.rule.multiply.Given as goal
 
 abbrev pub invariant-loop-j : goal.invariant-loop-j
-invariant-loop-j l = ?
+invariant-loop-j l = (i : ℕ) → i < l.j
+    → (slice_index l.v i ≡ times l.m (slice_index l.u) i) × (slice_index l.v i < 2 ^ 63)
