@@ -53,15 +53,15 @@ bounding m u v low below found least most =
           let h = least.least i (omega (arith, found.next.size)) in
           let left : low.0 * slice_index u i ≡ slice_index v p * slice_index u i = ap (λ (a : ℕ). a * slice_index u i) least.above in
           let right : low.1 * times m (slice_index u) i ≡ slice_index v i * slice_index u p =
-              ap (λ (a : ℕ). a * times m (slice_index u) i) least.below ∙ ap (λ (a : ℕ). slice_index u p * a) (found.product i within)
-              ∙ mul_comm (slice_index u p) (slice_index v i) in
+          ap (λ (a : ℕ). a * times m (slice_index u) i) least.below ∙ ap (λ (a : ℕ). slice_index u p * a) (found.product i within)
+          ∙ mul_comm (slice_index u p) (slice_index v i) in
           omega (arith, h, left, right);
       at_most = λ i within.
           let h = most.least i (omega (arith, found.row.size)) in
           let left : below.0 * times m (slice_index u) i ≡ slice_index u q * slice_index v i =
-              ap (λ (a : ℕ). a * times m (slice_index u) i) most.above ∙ ap (λ (a : ℕ). slice_index u q * a) (found.product i within) in
+          ap (λ (a : ℕ). a * times m (slice_index u) i) most.above ∙ ap (λ (a : ℕ). slice_index u q * a) (found.product i within) in
           let right : below.1 * slice_index u i ≡ slice_index u i * slice_index v q =
-              ap (λ (a : ℕ). a * slice_index u i) most.below ∙ mul_comm (slice_index v q) (slice_index u i) in
+          ap (λ (a : ℕ). a * slice_index u i) most.below ∙ mul_comm (slice_index v q) (slice_index u i) in
           omega (arith, h, left, right);
     }
 

@@ -122,3 +122,30 @@ fn is_growing(u: &[u64], v: &[u64]) -> bool
     }
     true
 }
+
+#[cfg(test)]
+mod tests {
+    use super::*;
+    use std::test::Fail;
+
+    #[test]
+    fn golden_ratio(rt: HostRuntime) -> Result<(), Fail> {
+        let alloc = rt.alloc();
+        let columns = [[0, 1].to_vec(alloc)?, [0, 1, 1].to_vec(alloc)?];
+        let m = Matrix::from_columns(alloc, 2, &columns)?;
+        let found = bounds(alloc, &m)?.ok_or("bounds")?;
+        assert_eq!(rt; found.u.as_slice(), [34, 55].as_slice());
+        assert_eq!(rt; found.low, (89, 34));
+        assert_eq!(rt; found.high, (144, 55));
+        Ok(())
+    }
+
+    #[test]
+    fn no_growth(rt: HostRuntime) -> Result<(), Fail> {
+        let alloc = rt.alloc();
+        let columns = [[1].to_vec(alloc)?, [0].to_vec(alloc)?];
+        let m = Matrix::from_columns(alloc, 2, &columns)?;
+        assert!(rt; bounds(alloc, &m)?.is_none());
+        Ok(())
+    }
+}

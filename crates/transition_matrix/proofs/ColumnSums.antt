@@ -17,9 +17,9 @@ sum_below-beginning k zero f within =
     let P : ℕ → Type 0 = λ l. sum_below l f ≤ sum_below 0 f in
     subst P (sym e) (omega arith)
 sum_below-beginning k (suc n) f within = elim (cases_eq k (suc n)) [
-      inl e ↦ let P : ℕ → Type 0 = λ l. sum_below l f ≤ sum_below (suc n) f in subst P (sym e) (omega arith)
-    | inr apart ↦ let before : sum_below k f ≤ sum_below n f = sum_below-beginning k n f (omega arith) in omega arith
-    ]
+  | inl e ↦ let P : ℕ → Type 0 = λ l. sum_below l f ≤ sum_below (suc n) f in subst P (sym e) (omega arith)
+  | inr apart ↦ let before : sum_below k f ≤ sum_below n f = sum_below-beginning k n f (omega arith) in omega arith
+]
 
 -- ---- one row after another
 
@@ -31,7 +31,7 @@ pub next_sums : (m : Square) (j i : ℕ) → column_sum m (suc j) i ≡ times m 
 next_sums m j i =
     sum_below-exchange m.size m.size (λ l r. power m j l r * entry m r i)
     ∙ sum_below-same m.size _ (λ r. column_sum m j r * entry m r i)
-      (λ r low. sum_below-scale_right m.size (entry m r i) (λ l. power m j l r))
+    (λ r low. sum_below-scale_right m.size (entry m r i) (λ l. power m j l r))
 
 -- ---- rising
 
@@ -65,12 +65,12 @@ rising_from m j zero i positive within low =
     let P : ℕ → Type 0 = λ k. column_sum m k i ≤ column_sum m 0 i in
     subst P (sym e) (omega arith)
 rising_from m j (suc l) i positive within low = elim (cases_eq j (suc l)) [
-      inl e ↦ let P : ℕ → Type 0 = λ k. column_sum m k i ≤ column_sum m (suc l) i in subst P (sym e) (omega arith)
-    | inr apart ↦
+  | inl e ↦ let P : ℕ → Type 0 = λ k. column_sum m k i ≤ column_sum m (suc l) i in subst P (sym e) (omega arith)
+  | inr apart ↦
       let before = rising_from m j l i positive (omega arith) low in
       let last = rises m l i positive low in
       omega (arith, before, last)
-    ]
+]
 
 pub rising : (m : Square) (k j l i : ℕ) → ((r : ℕ) → r < m.size → 0 < column_sum m (suc k) r) → j ≤ l → i < m.size
     → column_sum m j i ≤ column_sum m l i

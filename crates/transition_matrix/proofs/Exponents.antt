@@ -97,7 +97,7 @@ pub next_reached : (m : Square) (width k : ℕ) (matrix words new : List ℕ)
     → ((i j : ℕ) → i < m.size → j < m.size → bit width matrix i j ≡ nat_lt 0 (entry m i j))
     → HasSigns m width (k + 1) words
     → ((i j : ℕ) → i < m.size → j < m.size
-       → bit width new i j ≡ any_below m.size (λ l. bit width words i l && bit width matrix l j))
+    → bit width new i j ≡ any_below m.size (λ l. bit width words i l && bit width matrix l j))
     → HasSigns m width (k + 1 + 1) new
 next_reached m width k matrix words new signs before product =
     let P : ℕ → Type 0 = λ e. HasSigns m width e new in

@@ -17,11 +17,11 @@ pub paired-times : (m : Square) (u y : ℕ → ℕ) → paired m (times m u) y �
 paired-times m u y =
     let n : ℕ = m.size in
     sum_below-same n _ (λ j. sum_below n (λ i. u i * entry m i j * y j))
-      (λ j low. sym (sum_below-scale_right n (y j) (λ i. u i * entry m i j)))
+    (λ j low. sym (sum_below-scale_right n (y j) (λ i. u i * entry m i j)))
     ∙ sum_below-exchange n n (λ j i. u i * entry m i j * y j)
     ∙ sum_below-same n _ (λ i. u i * applied m y i)
-      (λ i low. sum_below-same n _ (λ j. u i * (entry m i j * y j)) (λ j l. mul_assoc (u i) (entry m i j) (y j))
-       ∙ sum_below-scale n (u i) (λ j. entry m i j * y j))
+    (λ i low. sum_below-same n _ (λ j. u i * (entry m i j * y j)) (λ j l. mul_assoc (u i) (entry m i j) (y j))
+    ∙ sum_below-scale n (u i) (λ j. entry m i j * y j))
 
 -- entry by entry, then added up
 pub paired-mono : (m : Square) (a b : ℕ) (u v y : ℕ → ℕ) → ((i : ℕ) → i < m.size → a * u i ≤ b * v i)
@@ -29,9 +29,9 @@ pub paired-mono : (m : Square) (a b : ℕ) (u v y : ℕ → ℕ) → ((i : ℕ) 
 paired-mono m a b u v y below =
     let n : ℕ = m.size in
     let left : a * paired m u y ≡ sum_below n (λ i. a * u i * y i) =
-        sym (sum_below-scale n a (λ i. u i * y i)) ∙ sum_below-same n _ _ (λ i low. sym (mul_assoc a (u i) (y i))) in
+    sym (sum_below-scale n a (λ i. u i * y i)) ∙ sum_below-same n _ _ (λ i low. sym (mul_assoc a (u i) (y i))) in
     let right : b * paired m v y ≡ sum_below n (λ i. b * v i * y i) =
-        sym (sum_below-scale n b (λ i. v i * y i)) ∙ sum_below-same n _ _ (λ i low. sym (mul_assoc b (v i) (y i))) in
+    sym (sum_below-scale n b (λ i. v i * y i)) ∙ sum_below-same n _ _ (λ i low. sym (mul_assoc b (v i) (y i))) in
     let between = sum_below-mono n (λ i. a * u i * y i) (λ i. b * v i * y i) (λ i low. mul-le-mul_right (y i) (below i low)) in
     omega (arith, left, right, between)
 
@@ -58,7 +58,7 @@ chain p q a b s t r first second =
     let two : q * (a * t) ≤ q * (b * r) = mul-le-mul_left q second in
     let left : p * a * s ≡ a * (p * s) = ap (λ (c : ℕ). c * s) (mul_comm p a) ∙ mul_assoc a p s in
     let middle : a * (q * t) ≡ q * (a * t) =
-        sym (mul_assoc a q t) ∙ ap (λ (c : ℕ). c * t) (mul_comm a q) ∙ mul_assoc q a t in
+    sym (mul_assoc a q t) ∙ ap (λ (c : ℕ). c * t) (mul_comm a q) ∙ mul_assoc q a t in
     let right : q * (b * r) ≡ q * b * r = sym (mul_assoc q b r) in
     omega (arith, one, two, left, middle, right)
 

@@ -150,3 +150,43 @@ fn least_exponent(
     }
     None
 }
+
+#[cfg(test)]
+mod tests {
+    use super::*;
+    use std::test::Fail;
+
+    /// The least exponent of the matrix with two columns that count these lists.
+    fn exponent(alloc: Global, first: &[u32], second: &[u32]) -> Result<Option<u32>, Fail>
+        requires { All (λ i. i < 2) first.now × All (λ i. i < 2) second.now
+            × (length first.now < 9) × (length second.now < 9) }
+    {
+        let columns = [first.to_vec(alloc)?, second.to_vec(alloc)?];
+        let m = Matrix::from_columns(alloc, 2, &columns)?;
+        let mut scratch = Scratch::new(alloc, 2)?;
+        Ok(m.primitive_exponent(&mut scratch, 1024))
+    }
+
+    #[test]
+    fn counts_and_exponents(rt: HostRuntime) -> Result<(), Fail> {
+        let alloc = rt.alloc();
+        let columns = [[0, 1].to_vec(alloc)?, [0, 1, 1].to_vec(alloc)?];
+        let m = Matrix::from_columns(alloc, 2, &columns)?;
+        assert_eq!(rt; m.size(), 2);
+        assert_eq!(rt; (m.entry(0, 0), m.entry(0, 1)), (1, 1));
+        assert_eq!(rt; (m.entry(1, 0), m.entry(1, 1)), (1, 2));
+        assert_eq!(rt; exponent(alloc, &[0, 1], &[0, 1, 1])?, Some(1));
+        assert_eq!(rt; exponent(alloc, &[1], &[0, 1])?, Some(2));
+        assert_eq!(rt;
+            exponent(alloc, &[1], &[0])?,
+            None,
+            "a matrix that exchanges two"
+        );
+        assert_eq!(rt;
+            exponent(alloc, &[0], &[0, 1])?,
+            None,
+            "a column that stays"
+        );
+        Ok(())
+    }
+}

@@ -9,9 +9,9 @@ returns-clause-rule c =
     let u : List ℕ = c.find_growth.new.u in
     let v : List ℕ = c.find_growth.new.v in
     let u_is : take c.in_ok-u.u.len (u ++ drop (length u) c.in_ok-u.u.items) ≡ u
-        = whole_front c.in_ok-u.u.len u _ (c.find_growth.auto.u ∙ c.deref_mut.ensures.len) in
+    = whole_front c.in_ok-u.u.len u _ (c.find_growth.auto.u ∙ c.deref_mut.ensures.len) in
     let v_is : take c.in_ok-v.v.len (v ++ drop (length v) c.in_ok-v.v.items) ≡ v
-        = whole_front c.in_ok-v.v.len v _ (c.find_growth.auto.v ∙ c.deref_mut-2.ensures.len) in
+    = whole_front c.in_ok-v.v.len v _ (c.find_growth.auto.v ∙ c.deref_mut-2.ensures.len) in
     let low = read_ratio v u _ _ c.least_ratio-low.result (c.deref.ensures.value ∙ v_is) (c.deref-2.ensures.value ∙ u_is) c.least_ratio-low.ensures in
     let below = read_ratio u v _ _ c.least_ratio-below.result (c.deref-3.ensures.value ∙ u_is) (c.deref-4.ensures.value ∙ v_is) c.least_ratio-below.ensures in
     let found : IsFound c.args.m.now u v = c.find_growth.ensures.found c.if-not-find_growth.false in
@@ -30,9 +30,9 @@ returns-clause-bounds c =
     let u : List ℕ = c.find_growth.new.u in
     let v : List ℕ = c.find_growth.new.v in
     let u_is : take c.in_ok-u.u.len (u ++ drop (length u) c.in_ok-u.u.items) ≡ u
-        = whole_front c.in_ok-u.u.len u _ (c.find_growth.auto.u ∙ c.deref_mut.ensures.len) in
+    = whole_front c.in_ok-u.u.len u _ (c.find_growth.auto.u ∙ c.deref_mut.ensures.len) in
     let v_is : take c.in_ok-v.v.len (v ++ drop (length v) c.in_ok-v.v.items) ≡ v
-        = whole_front c.in_ok-v.v.len v _ (c.find_growth.auto.v ∙ c.deref_mut-2.ensures.len) in
+    = whole_front c.in_ok-v.v.len v _ (c.find_growth.auto.v ∙ c.deref_mut-2.ensures.len) in
     let low = read_ratio v u _ _ c.least_ratio-low.result (c.deref.ensures.value ∙ v_is) (c.deref-2.ensures.value ∙ u_is) c.least_ratio-low.ensures in
     let below = read_ratio u v _ _ c.least_ratio-below.result (c.deref-3.ensures.value ∙ u_is) (c.deref-4.ensures.value ∙ v_is) c.least_ratio-below.ensures in
     let found : IsFound c.args.m.now u v = c.find_growth.ensures.found c.if-not-find_growth.false in

@@ -22,8 +22,8 @@ returns-then-not-multiply-clause-none c none k from to =
 pub returns-then-is_growing-clause-found : goal.returns-then-is_growing-clause-found
 returns-then-is_growing-clause-found c found =
     let next = next_row c.matrix_laws.ensures.sums c.matrix_laws.ensures.column_sums c.args.m.now c.loop-j.j c.loop-j.u
-        c.multiply.new.v c.loop-j.invariant (omega (arith, c.multiply.auto.v, c.loop-j.auto.v, c.requires.size.1))
-        (c.multiply.ensures.written c.if-not-multiply.false) in
+    c.multiply.new.v c.loop-j.invariant (omega (arith, c.multiply.auto.v, c.loop-j.auto.v, c.requires.size.1))
+    (c.multiply.ensures.written c.if-not-multiply.false) in
     let t : IsTrue true = search rules in
     found_here c.args.m.now c.loop-j.j c.loop-j.u c.multiply.new.v c.loop-j.invariant next c.if-j-ge-FIRST.true (omega arith)
     (c.if-is_growing.ensures.0 t) (λ i low. (c.multiply.ensures.written c.if-not-multiply.false i low).0)
@@ -32,16 +32,16 @@ pub loop-j-preserved : goal.loop-j-preserved
 loop-j-preserved c =
     let m = c.args.m.now in
     let next = next_row c.matrix_laws.ensures.sums c.matrix_laws.ensures.column_sums m c.loop-j.j c.loop-j.u
-        c.multiply.new.v c.loop-j.invariant (omega (arith, c.multiply.auto.v, c.loop-j.auto.v, c.requires.size.1))
-        (c.multiply.ensures.written c.if-not-multiply.false) in
+    c.multiply.new.v c.loop-j.invariant (omega (arith, c.multiply.auto.v, c.loop-j.auto.v, c.requires.size.1))
+    (c.multiply.ensures.written c.if-not-multiply.false) in
     let P : List ℕ → Type 0 = λ u. IsReached m (c.loop-j.j + 1) u in
     let here : IsReached m (c.loop-j.j + 1) c.multiply.new.v = elim c.else-j-ge-FIRST.branch [
-          else-j-ge-FIRST-via-then-j-ge-FIRST+else-is_growing w ↦
-            stays_off m c.loop-j.j c.loop-j.u c.multiply.new.v c.loop-j.invariant next
-            (λ growing. let t : IsTrue false = w.if-is_growing.ensures.1 growing in grind arith)
-        | else-j-ge-FIRST-via-else-j-ge-FIRST w ↦
-            too_early m c.loop-j.j c.loop-j.u c.multiply.new.v c.loop-j.invariant next (omega (arith, w.if-j-ge-FIRST.false))
-        ] in
+      | else-j-ge-FIRST-via-then-j-ge-FIRST+else-is_growing w ↦
+          stays_off m c.loop-j.j c.loop-j.u c.multiply.new.v c.loop-j.invariant next
+          (λ growing. let t : IsTrue false = w.if-is_growing.ensures.1 growing in grind arith)
+      | else-j-ge-FIRST-via-else-j-ge-FIRST w ↦
+          too_early m c.loop-j.j c.loop-j.u c.multiply.new.v c.loop-j.invariant next (omega (arith, w.if-j-ge-FIRST.false))
+    ] in
     subst P (sym c.copy_from_slice.ensures.after) here
 
 pub returns-clause-none : goal.returns-clause-none
