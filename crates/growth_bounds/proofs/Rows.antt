@@ -2,7 +2,8 @@
 --
 -- The rows are read one after another from the row of ones on. Where an entry of the next row isn't small, no later row
 -- grows: a row that grows is positive, so by then the rows never fall (ColumnSumLaws), and the entry stays too great.
-use Rattle.std.proofs.Common.{◌≡◌, ◌<◌, ◌≤◌, ◌+◌, ◌*◌, ◌^◌, ◌⊎◌, inl, inr, ℕ, zero, suc, List, length, slice_index, slice_index_or, All, refl, sym, ◌∙◌, ap, subst, arith, add-one}
+use Rattle.std.proofs.Common.{◌≡◌, ◌<◌, ◌≤◌, ◌+◌, ◌*◌, ◌^◌, ◌⊎◌, inl, inr, ℕ, zero, suc, List, length, slice_index}
+use Rattle.std.proofs.Common.{slice_index_or, All, refl, sym, ◌∙◌, ap, subst, arith, add-one}
 use Rattle.std.proofs.lemmas.Bool.{cases_eq, cases_lt}
 use Rattle.std.proofs.lemmas.List.{get_or_default}
 use Rattle.transition_matrix.specs.Matrices.{Square, entry, sum_below}
@@ -11,9 +12,11 @@ use Rattle.transition_matrix.specs.MatrixLaws.{SumLaws, ColumnSumLaws}
 use Rattle.growth_bounds.specs.inside.Reached.{IsReached, IsNext, IsGrowing, IsFound}
 use Rattle.growth_bounds.specs.Rule.{Grows, IsFirstGrowth, IsLeastRatio, row_limit}
 
-same_times : SumLaws → (m : Square) (u v : ℕ → ℕ) (i : ℕ) → ((l : ℕ) → l < m.size → u l ≡ v l) → times m u i ≡ times m v i
+same_times : SumLaws → (m : Square) (u v : ℕ → ℕ) (i : ℕ) → ((l : ℕ) → l < m.size → u l ≡ v l)
+    → times m u i ≡ times m v i
 same_times laws m u v i same =
-    laws.same m.size (λ l. u l * entry m l i) (λ l. v l * entry m l i) (λ l low. ap (λ (n : ℕ). n * entry m l i) (same l low))
+    laws.same m.size (λ l. u l * entry m l i) (λ l. v l * entry m l i) (λ l low. ap (λ (n : ℕ). n * entry m l i) (same
+    l low))
 
 next_is : SumLaws → ColumnSumLaws → (m : Square) (j : ℕ) (u : List ℕ) (i : ℕ) → IsReached m j u
     → times m (slice_index u) i ≡ column_sum m (suc j) i
@@ -44,9 +47,21 @@ next_row sums laws m j u v reached size product = record {
 
 pub grows_here : (m : Square) (j : ℕ) (u v : List ℕ) → IsReached m j u → IsNext m j v → IsGrowing u v → Grows m j
 grows_here m j u v reached next growing = record {
-  positive = λ i low. let e = reached.is i low in let h = growing i (omega (arith, reached.size)) in omega (arith, h.0, e);
-  small = λ i low. let e = reached.is i low in let h = reached.small i 0 (omega (arith, reached.size)) in omega (arith, h, e);
-  next_small = λ i low. let e = next.is i low in let h = next.small i 0 (omega (arith, next.size)) in omega (arith, h, e);
+  positive = λ i low. let e = reached.is i low in let h = growing i (omega (arith, reached.size)) in omega (
+    arith,
+    h.0,
+    e,
+  );
+  small = λ i low. let e = reached.is i low in let h = reached.small i 0 (omega (arith, reached.size)) in omega (
+    arith,
+    h,
+    e,
+  );
+  next_small = λ i low. let e = next.is i low in let h = next.small i 0 (omega (arith, next.size)) in omega (
+    arith,
+    h,
+    e,
+  );
   greater = λ i low.
       let d = reached.is i low in let e = next.is i low in let h = growing i (omega (arith, reached.size)) in
       omega (arith, h.1, d, e);
@@ -97,7 +112,13 @@ pub found_here : (m : Square) (j : ℕ) (u v : List ℕ) → IsReached m j u →
     → IsGrowing u v → ((i : ℕ) → i < m.size → slice_index v i ≡ times m (slice_index u) i) → IsFound m u v
 found_here m j u v reached next from to growing product = record {
   number = j;
-  first = record { from_four = from; to_sixty_four = to; grows = grows_here m j u v reached next growing; first = reached.none };
+  first = record {
+    from_four = from;
+    to_sixty_four = to;
+    grows = grows_here m j u v reached next growing;
+    first =
+        reached.none;
+  };
   row = reached;
   next = next;
   product = λ i low. sym (product i low);
@@ -109,4 +130,5 @@ none_at_end m j u reached past k from to = reached.none k from (omega arith)
 pub none_after : SumLaws → ColumnSumLaws → (m : Square) (j : ℕ) (u : List ℕ) → IsReached m j u
     → (i : ℕ) × (i < m.size) × (2 ^ 63 ≤ times m (slice_index u) i) → (k : ℕ) → 4 ≤ k → ¬ Grows m k
 none_after sums laws m j u reached great =
-    ended laws m j great.0 great.1 (let e = next_is sums laws m j u great.0 reached in omega (arith, e, great.2)) reached.none
+    ended laws m j great.0 great.1 (let e = next_is sums laws m j u great.0 reached in omega (arith, e, great.2))
+    reached.none

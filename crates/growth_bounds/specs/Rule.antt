@@ -1,5 +1,6 @@
--- The rule for the bounds that are printed: the row of column sums of the first power of the matrix from the fourth on
--- that stays small, is positive, and grows in every entry; and the least and the greatest ratio of growth.
+-- The rule for the bounds that are printed: the row of column sums of the first power of the matrix
+-- from the fourth on that stays small, is positive, and grows in every entry; and the least and the
+-- greatest ratio of growth.
 use Rattle.std.specs.Prelude.{◌≡◌, ◌<◌, ◌≤◌, ◌*◌, ◌^◌, ℕ, suc, List, length, slice_index}
 use Rattle.transition_matrix.specs.Bounds.{column_sum}
 use Rattle.transition_matrix.specs.Matrices.{Square}
@@ -9,7 +10,8 @@ use Rattle.growth_bounds.specs.declared.rule.GrowthBounds.{GrowthBounds}
 abbrev pub row_limit : ℕ
 row_limit = 2 ^ 63
 
--- the row and the next one stay below the limit, the row is positive, and the next one is greater in every entry
+-- the row and the next one stay below the limit, the row is positive, and the next one is greater
+-- in every entry
 pub record Grows (m : Square) (j : ℕ) : Type 0 where
   pub positive : (i : ℕ) → i < m.size → 0 < column_sum m j i
   pub small : (i : ℕ) → i < m.size → column_sum m j i < row_limit
@@ -23,7 +25,8 @@ pub record IsFirstGrowth (m : Square) (j : ℕ) : Type 0 where
   pub grows : Grows m j
   pub first : (k : ℕ) → 4 ≤ k → k < j → ¬ Grows m k
 
--- the pair is (v i, u i) of the least ratio v i / u i among those below n, at the first i of that ratio
+-- the pair is (v i, u i) of the least ratio v i / u i among those below n, at the first i of that
+-- ratio
 pub record IsLeastRatio (n : ℕ) (v u : ℕ → ℕ) (pair : ℕ × ℕ) : Type 0 where
   pub place : ℕ
   pub within : place < n
@@ -43,4 +46,5 @@ pub record IsRuledBy (m : Square) (bounds : GrowthBounds) : Type 0 where
   pub size : length bounds.u.items ≡ m.size
   pub row_is : (i : ℕ) → i < m.size → slice_index bounds.u.items i ≡ column_sum m number i
   pub low : IsLeastRatio m.size (column_sum m (suc number)) (column_sum m number) bounds.low
-  pub high : IsLeastRatio m.size (column_sum m number) (column_sum m (suc number)) (turned bounds.high)
+  pub high : IsLeastRatio m.size (column_sum m number) (column_sum m (suc number)) (turned
+      bounds.high)

@@ -11,8 +11,8 @@ fn is_smaller(left: (u64, u64), right: (u64, u64)) -> bool
     u128::from(left.0) * u128::from(right.1) < u128::from(right.0) * u128::from(left.1)
 }
 
-/// The least ratio `v[i] / u[i]`, as the pair of its two numbers, at the first place that has it. The
-/// numbers are below 2^63.
+/// The least ratio `v[i] / u[i]`, as the pair of its two numbers, at the first place that has it.
+/// The numbers are below 2^63.
 pub(crate) fn least_ratio(v: &[u64], u: &[u64]) -> (u64, u64)
     requires some { 0 < length v.now }
     requires same { length u.now ≡ length v.now }

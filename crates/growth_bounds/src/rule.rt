@@ -1,5 +1,6 @@
 //! The rule for bounds.
-ghost use Rattle.std.specs.Prelude.{◌≡◌, ◌<◌, ◌≤◌, ◌+◌, ◌*◌, ◌^◌, ◌↔◌, ℕ, length, slice_index, All, IsTrue, true, false, IfOk, IfSome, IfNone, MatchOption};
+ghost use Rattle.std.specs.Prelude.{◌≡◌, ◌<◌, ◌≤◌, ◌+◌, ◌*◌, ◌^◌, ◌↔◌, ℕ, length, slice_index, All};
+ghost use Rattle.std.specs.Prelude.{IsTrue, true, false, IfOk, IfSome, IfNone, MatchOption};
 ghost use Rattle.transition_matrix.specs.Matrices.{entry, sum_below};
 ghost use Rattle.transition_matrix.specs.Bounds.{times, IsBounds};
 ghost use Rattle.growth_bounds.specs.Rule.{Grows, IsRuledBy};
@@ -29,15 +30,16 @@ const FIRST: u32 = 4;
 /// The last power that is looked at.
 const LAST: u32 = 64;
 
-/// The bounds of the growth of a matrix by the rule: for the first j from 4 to 64 for which the row of
-/// ones times the j-th power, u, and the row u times the matrix have all entries below 2^63, u is
-/// positive, and every entry of the second row is greater, they are u and the least and the greatest
-/// ratio of the entries, each at its first place. None exactly where there is no such j.
+/// The bounds of the growth of a matrix by the rule: for the first j from 4 to 64 for which the row
+/// of ones times the j-th power, u, and the row u times the matrix have all entries below 2^63, u
+/// is positive, and every entry of the second row is greater, they are u and the least and the
+/// greatest ratio of the entries, each at its first place. None exactly where there is no such j.
 pub fn bounds(alloc: Global, m: &Matrix) -> Result<Option<GrowthBounds>, Memory>
     requires { 0 < m.now.size }
     ensures rule { IfOk result (λ found. MatchOption found
         ((j : ℕ) → 4 ≤ j → j ≤ 64 → ¬ Grows m.now j) (IsRuledBy m.now)) }
-    ensures bounds { IfOk result (λ found. IfSome found (λ b. IsBounds m.now b.u.items b.low b.high)) }
+    ensures bounds { IfOk result (λ found. IfSome found (λ b. IsBounds m.now b.u.items b.low
+        b.high)) }
 {
     let n = m.size();
     let mut u = vec![in alloc; 1u64; n]?;
@@ -98,8 +100,10 @@ fn multiply(m: &Matrix, u: &[u64], v: &mut [u64]) -> bool
     requires size { (length u.now ≡ m.now.size) × (length v.old ≡ m.now.size) }
     requires small { All (λ n. n < 2 ^ 63) u.now }
     ensures written { result ≡ true → (i : ℕ) → i < m.now.size
-        → (slice_index v.new i ≡ times m.now (slice_index u.now) i) × (slice_index v.new i < 2 ^ 63) }
-    ensures over { result ≡ false → (i : ℕ) × (i < m.now.size) × (2 ^ 63 ≤ times m.now (slice_index u.now) i) }
+        → (slice_index v.new i ≡ times m.now (slice_index u.now) i)
+        × (slice_index v.new i < 2 ^ 63) }
+    ensures over { result ≡ false → (i : ℕ) × (i < m.now.size)
+        × (2 ^ 63 ≤ times m.now (slice_index u.now) i) }
 {
     for j in 0..m.size() {
         match product_at(m, u, j) {

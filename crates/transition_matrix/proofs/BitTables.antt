@@ -3,8 +3,11 @@
 -- Row i of a table has `width` words, from the word i * width on, and its value in column j is the bit j % 64 of the
 -- word j / 64 of these. A column below width * 64 lies in one of the row's own words, so that two values in different
 -- rows lie in different words (Places.same_row), and two in different columns of a row in different words or at
--- different bits of one word. The library knows single bits: of a word with one bit set, and of two words joined by `|`.
-use Rattle.std.proofs.Common.{◌≡◌, ◌≢◌, ◌<◌, ◌≤◌, ◌+◌, ◌*◌, ◌/◌, ◌%◌, ◌^◌, ◌⊎◌, inl, inr, ℕ, zero, suc, List, length, slice_index, slice_set, nat_eq, true, false, Bool, max, bit_or, w64, refl, sym, ◌∙◌, ap, subst, arith, add-one}
+-- different bits of one word. The library knows single bits: of a word with one bit set, and of two words joined by
+-- `|`.
+use Rattle.std.proofs.Common.{◌≡◌, ◌≢◌, ◌<◌, ◌≤◌, ◌+◌, ◌*◌, ◌/◌, ◌%◌, ◌^◌, ◌⊎◌, inl, inr, ℕ, zero, suc, List, length}
+use Rattle.std.proofs.Common.{slice_index, slice_set, nat_eq, true, false, Bool, max, bit_or, w64, refl, sym, ◌∙◌, ap}
+use Rattle.std.proofs.Common.{subst, arith, add-one}
 use Rattle.std.specs.Prelude.{◌||◌}
 use Rattle.std.specs.Int.{bit_at}
 use native.Mathlib.Nat.{suc-mul, mul-le-mul_right}
@@ -34,13 +37,15 @@ pub set_here : (width : ℕ) (words : List ℕ) (i j : ℕ) → i * width + j / 
 set_here width words i j within =
     let at : ℕ = i * width + j / 64 in
     let word = get_or-set_same words at (with_bit (slice_index words at) j) 0 within in
-    eq-eqb _ 1 (ap (λ (n : ℕ). bit_at n (j % 64)) word ∙ bit_at_set_same w64 (slice_index words at) (j % 64) (low_bit j))
+    eq-eqb _ 1 (ap (λ (n : ℕ). bit_at n (j % 64)) word ∙ bit_at_set_same w64 (slice_index words at) (j % 64) (low_bit
+    j))
 
 -- a value in another word
 set_elsewhere : (width : ℕ) (words : List ℕ) (i j l k : ℕ) → l * width + k / 64 ≢ i * width + j / 64
     → bit width (set_in width words i j) l k ≡ bit width words l k
 set_elsewhere width words i j l k apart =
-    ap (λ (n : ℕ). nat_eq (bit_at n (k % 64)) 1) (get_or-set_other words (i * width + j / 64) (l * width + k / 64) _ 0 apart)
+    ap (λ (n : ℕ). nat_eq (bit_at n (k % 64)) 1) (get_or-set_other words (i * width + j / 64) (l * width + k / 64) _ 0
+    apart)
 
 -- a value at another bit of the same word
 set_beside : (width : ℕ) (words : List ℕ) (i j k : ℕ) → i * width + j / 64 < length words → k / 64 ≡ j / 64 → k ≢ j
@@ -86,14 +91,17 @@ bit_small : (n k : ℕ) → bit_at n k < 2
 bit_small n k = omega arith
 
 pub joined_words : (a b k : ℕ) → nat_eq (bit_at (bit_or a b) k) 1 ≡ (nat_eq (bit_at a k) 1 || nat_eq (bit_at b k) 1)
-joined_words a b k = ap (λ (n : ℕ). nat_eq n 1) (bit_at_or a b k) ∙ or_test (bit_at a k) (bit_at b k) (bit_small a k) (bit_small b k)
+joined_words a b k = ap (λ (n : ℕ). nat_eq n 1) (bit_at_or a b k)
+    ∙ or_test (bit_at a k) (bit_at b k) (bit_small a k) (bit_small b k)
 
 -- a row whose words are all joined with those of another row
 pub joined_row : (width : ℕ) (words others new : List ℕ) (i l j : ℕ) → j < width * 64
-    → ((s : ℕ) → s < width → slice_index new (i * width + s) ≡ bit_or (slice_index words (i * width + s)) (slice_index others (l * width + s)))
+    → ((s : ℕ) → s < width → slice_index new (i * width + s)
+    ≡ bit_or (slice_index words (i * width + s)) (slice_index others (l * width + s)))
     → bit width new i j ≡ (bit width words i j || bit width others l j)
 joined_row width words others new i l j column joined =
-    ap (λ (n : ℕ). nat_eq (bit_at n (j % 64)) 1) (joined (j / 64) (word_within width j column)) ∙ joined_words _ _ (j % 64)
+    ap (λ (n : ℕ). nat_eq (bit_at n (j % 64)) 1) (joined (j / 64) (word_within width j column))
+    ∙ joined_words _ _ (j % 64)
 
 -- another row, where all words before and after those of row i are as they were
 pub other_row : (width : ℕ) (words new : List ℕ) (i k j : ℕ) → k ≢ i → j < width * 64

@@ -1,5 +1,6 @@
 -- A table in which some columns are counted and the others are zero.
-use Rattle.std.proofs.Common.{◌≡◌, ◌≢◌, ◌<◌, ◌≤◌, ◌+◌, ◌*◌, ◌++◌, ◌⊎◌, inl, inr, ℕ, List, [], length, take, drop, slice_index, slice_index_or, count_by, nat_eq, refl, sym, ◌∙◌, ap, subst, arith}
+use Rattle.std.proofs.Common.{◌≡◌, ◌≢◌, ◌<◌, ◌≤◌, ◌+◌, ◌*◌, ◌++◌, ◌⊎◌, inl, inr, ℕ, List, [], length, take, drop}
+use Rattle.std.proofs.Common.{slice_index, slice_index_or, count_by, nat_eq, refl, sym, ◌∙◌, ap, subst, arith}
 use Rattle.std.proofs.Math.Seq.{take-append_seam}
 use Rattle.std.proofs.lemmas.Bool.{cases_eq}
 
@@ -10,7 +11,8 @@ whole_front n xs ys e = ap (λ (m : ℕ). take m (xs ++ ys)) (sym e) ∙ take-ap
 -- the columns below j are counted, the others are zero
 pub record IsCounted (n : ℕ) (columns : List (List ℕ)) (j : ℕ) (es : List ℕ) : Type 0 where
   pub whole : length es ≡ n * n
-  pub counted : (i k : ℕ) → i < n → k < j → slice_index es (i * n + k) ≡ count_by (nat_eq i) (slice_index_or columns k [])
+  pub counted : (i k : ℕ) → i < n → k < j → slice_index es (i * n + k)
+      ≡ count_by (nat_eq i) (slice_index_or columns k [])
   pub zero : (i k : ℕ) → i < n → j ≤ k → k < n → slice_index es (i * n + k) ≡ 0
 
 pub counted_next : (n : ℕ) (columns : List (List ℕ)) (j : ℕ) (es new : List ℕ) → j < n → IsCounted n columns j es
@@ -21,7 +23,8 @@ pub counted_next : (n : ℕ) (columns : List (List ℕ)) (j : ℕ) (es new : Lis
 counted_next n columns j es new within before same here others = record {
   whole = same ∙ before.whole;
   counted = λ i k row column. elim (cases_eq k j) [
-    | inl e ↦ let P : ℕ → Type 0 = λ l. slice_index new (i * n + l) ≡ count_by (nat_eq i) (slice_index_or columns l []) in
+    | inl e ↦ let P : ℕ → Type 0 = λ l. slice_index new (i * n + l)
+        ≡ count_by (nat_eq i) (slice_index_or columns l []) in
         subst P (sym e) (here i row)
     | inr apart ↦ others i k row (omega arith) apart ∙ before.counted i k row (omega arith)
   ];

@@ -3,7 +3,8 @@
 -- An entry of a power is a sum of products of numbers that aren't negative, so it is positive exactly where one of the
 -- products is, and that is where both of its factors are. So "is positive" turns the product of matrices into the
 -- product of tables of truth values, and the tables of the powers can be multiplied on without the numbers.
-use Rattle.std.proofs.Common.{◌≡◌, ◌<◌, ◌≤◌, ◌+◌, ◌*◌, ◌⊎◌, inl, inr, ℕ, zero, suc, List, nat_lt, true, false, Bool, refl, sym, ◌∙◌, ap, subst, arith, add-one, mul-zero, zero-mul}
+use Rattle.std.proofs.Common.{◌≡◌, ◌<◌, ◌≤◌, ◌+◌, ◌*◌, ◌⊎◌, inl, inr, ℕ, zero, suc, List, nat_lt, true, false, Bool}
+use Rattle.std.proofs.Common.{refl, sym, ◌∙◌, ap, subst, arith, add-one, mul-zero, zero-mul}
 use Rattle.std.specs.Prelude.{◌||◌, ◌&&◌}
 use Rattle.std.proofs.lemmas.Bool.{cases_eq, lt-ltb, le-ltb, ltb-true}
 use Rattle.transition_matrix.specs.Matrices.{Square, entry, sum_below, power, IsPositivePower, IsLeastExponent}

@@ -3,7 +3,8 @@
 -- Pairing is associative: (u M) . y = u . (M y), by exchanging the two sums. Where p u_i <= q (u M)_i for each i, the
 -- same holds after multiplying by y_i and adding: p (u . y) <= q (u . M y). The n-th power follows by induction on n,
 -- one factor at a time; the other bound is the same with the sides exchanged.
-use Rattle.std.proofs.Common.{◌≡◌, ◌<◌, ◌≤◌, ◌+◌, ◌*◌, ◌^◌, ℕ, zero, suc, List, slice_index, refl, sym, ◌∙◌, ap, subst, arith}
+use Rattle.std.proofs.Common.{◌≡◌, ◌<◌, ◌≤◌, ◌+◌, ◌*◌, ◌^◌, ℕ, zero, suc, List, slice_index, refl, sym, ◌∙◌, ap, subst}
+use Rattle.std.proofs.Common.{arith}
 use native.Mathlib.Nat.{mul_assoc, mul_comm, mul-le-mul_left, mul-le-mul_right, le_trans, le_of_eq, pow-suc, pow-zero}
 use Rattle.transition_matrix.specs.Matrices.{Square, entry, sum_below}
 use Rattle.transition_matrix.specs.Bounds.{times, applied, iterated, paired, IsBounds}
@@ -32,7 +33,8 @@ paired-mono m a b u v y below =
     sym (sum_below-scale n a (λ i. u i * y i)) ∙ sum_below-same n _ _ (λ i low. sym (mul_assoc a (u i) (y i))) in
     let right : b * paired m v y ≡ sum_below n (λ i. b * v i * y i) =
     sym (sum_below-scale n b (λ i. v i * y i)) ∙ sum_below-same n _ _ (λ i low. sym (mul_assoc b (v i) (y i))) in
-    let between = sum_below-mono n (λ i. a * u i * y i) (λ i. b * v i * y i) (λ i low. mul-le-mul_right (y i) (below i low)) in
+    let between = sum_below-mono n (λ i. a * u i * y i) (λ i. b * v i * y i) (λ i low. mul-le-mul_right (y i) (below i
+    low)) in
     omega (arith, left, right, between)
 
 -- ---- one step
@@ -87,7 +89,8 @@ at_most m u low high (suc n) y bounds =
     let r : ℕ = paired m (slice_index u) (iterated m (suc n) y) in
     let done = at_most m u low high n y bounds in
     let step = step_most m (slice_index u) high.0 high.1 (iterated m n y) bounds.at_most in
-    let both = chain high.1 high.0 (high.1 ^ n) (high.0 ^ n) r (paired m (slice_index u) (iterated m n y)) s step done in
+    let both = chain high.1 high.0 (high.1 ^ n) (high.0 ^ n) r (paired m (slice_index u) (iterated m n y)) s step done
+    in
     let P : ℕ → ℕ → Type 0 = λ a b. a * r ≤ b * s in
     let Q : ℕ → Type 0 = λ b. P (high.1 ^ suc n) b in
     let R : ℕ → Type 0 = λ a. P a (high.0 * high.0 ^ n) in

@@ -1,5 +1,7 @@
 -- Places in a table of n rows and n columns that is kept row after row: row i and column j at the place i * n + j.
-use Rattle.std.proofs.Common.{◌≡◌, ◌≢◌, ◌<◌, ◌≤◌, ◌+◌, ◌*◌, ◌⊎◌, inl, inr, ℕ, zero, suc, List, length, take, slice_index, slice_index_or, slice_set, count_by, nat_eq, true, false, Bool, refl, sym, ◌∙◌, ap, subst, arith}
+use Rattle.std.proofs.Common.{◌≡◌, ◌≢◌, ◌<◌, ◌≤◌, ◌+◌, ◌*◌, ◌⊎◌, inl, inr, ℕ, zero, suc, List, length, take}
+use Rattle.std.proofs.Common.{slice_index, slice_index_or, slice_set, count_by, nat_eq, true, false, Bool, refl, sym}
+use Rattle.std.proofs.Common.{◌∙◌, ap, subst, arith}
 use native.Mathlib.Nat.{suc-mul, mul-le-mul_right}
 use Rattle.std.proofs.lemmas.Bool.{cases_eq, cases_order, eq-eqb, ne_eqb}
 use Rattle.std.proofs.lemmas.List.{length-take-le, get_or-set_same, get_or-set_other}

@@ -1,5 +1,6 @@
 -- Powers of a matrix.
-use Rattle.std.proofs.Common.{◌≡◌, ◌≢◌, ◌<◌, ◌≤◌, ◌+◌, ◌*◌, ◌⊎◌, inl, inr, ℕ, zero, suc, List, length, true, false, Bool, refl, sym, ◌∙◌, ap, subst, arith}
+use Rattle.std.proofs.Common.{◌≡◌, ◌≢◌, ◌<◌, ◌≤◌, ◌+◌, ◌*◌, ◌⊎◌, inl, inr, ℕ, zero, suc, List, length, true, false}
+use Rattle.std.proofs.Common.{Bool, refl, sym, ◌∙◌, ap, subst, arith}
 use Rattle.std.specs.Prelude.{if◌then◌else◌, nat_eq}
 use Rattle.std.proofs.lemmas.Bool.{cases_eq, eq-eqb, ne_eqb}
 use Rattle.transition_matrix.specs.Matrices.{Square, entry, sum_below, power, IsPositivePower}
@@ -33,7 +34,11 @@ times goes zero c = c
 times goes (suc n) c = times goes n (goes c)
 
 equal_unit : (i j : ℕ) → 0 < unit i j → i ≡ j
-equal_unit i j some = elim (cases_eq i j) [ inl e ↦ e | inr apart ↦ absurd (let none : unit i j ≡ 0 = unit_other i j apart in omega arith) ]
+equal_unit i j some = elim (cases_eq i j) [
+  | inl e ↦ e
+  | inr apart ↦ absurd (let none : unit i j
+      ≡ 0 = unit_other i j apart in omega arith)
+]
 
 -- a positive entry of a power stands in the row's class that the column's class goes to
 pub power_respects : (m : Square) (class goes : ℕ → ℕ) (k i j : ℕ) → RespectsClasses m class goes

@@ -1,5 +1,6 @@
 -- Sums of sums: they may be exchanged, multiplied by a number, and compared term by term.
-use Rattle.std.proofs.Common.{◌≡◌, ◌<◌, ◌≤◌, ◌+◌, ◌*◌, ℕ, zero, suc, refl, sym, ◌∙◌, ap, subst, arith, mul-zero, zero-mul}
+use Rattle.std.proofs.Common.{◌≡◌, ◌<◌, ◌≤◌, ◌+◌, ◌*◌, ℕ, zero, suc, refl, sym, ◌∙◌, ap, subst, arith, mul-zero}
+use Rattle.std.proofs.Common.{zero-mul}
 use native.Mathlib.Nat.{add-mul, mul-add}
 use Rattle.transition_matrix.specs.Matrices.{sum_below}
 

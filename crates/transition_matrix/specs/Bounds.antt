@@ -1,4 +1,5 @@
--- Bounds of the growth of a matrix, by a row that it stretches in every entry, and columns under its powers.
+-- Bounds of the growth of a matrix, by a row that it stretches in every entry, and columns under
+-- its powers.
 use Rattle.std.specs.Prelude.{◌≡◌, ◌<◌, ◌≤◌, ◌*◌, ◌^◌, ℕ, zero, suc, List, length, slice_index}
 use Rattle.transition_matrix.specs.Matrices.{Square, entry, power, sum_below}
 
@@ -23,7 +24,8 @@ iterated m (suc n) y = applied m (iterated m n y)
 abbrev pub paired : Square → (ℕ → ℕ) → (ℕ → ℕ) → ℕ
 paired m u y = sum_below m.size (λ i. u i * y i)
 
--- in every entry the row grows by at least low.0 / low.1, which is above 1, and at most high.0 / high.1
+-- in every entry the row grows by at least low.0 / low.1, which is above 1, and at most high.0 /
+-- high.1
 pub record IsBounds (m : Square) (u : List ℕ) (low high : ℕ × ℕ) : Type 0 where
   pub one_per_row : length u ≡ m.size
   pub positive : (i : ℕ) → i < m.size → 0 < slice_index u i

@@ -1,5 +1,6 @@
 -- Square matrices of whole numbers, their powers, and growth bounds (Perron and Frobenius).
-use Rattle.std.specs.Prelude.{◌≡◌, ◌<◌, ◌≤◌, ◌+◌, ◌*◌, ℕ, zero, suc, List, [], length, slice_index, slice_index_or, count_by, nat_eq, if◌then◌else◌}
+use Rattle.std.specs.Prelude.{◌≡◌, ◌<◌, ◌≤◌, ◌+◌, ◌*◌, ℕ, zero, suc, List, [], length, slice_index}
+use Rattle.std.specs.Prelude.{slice_index_or, count_by, nat_eq, if◌then◌else◌}
 
 -- a square matrix: how many rows and columns it has, and its entries, row after row
 pub record Square : Type 0 where
@@ -31,7 +32,8 @@ power m (suc k) i j = sum_below m.size (λ l. power m k i l * entry m l j)
 abbrev pub IsPositivePower : Square → ℕ → Type 0
 IsPositivePower m k = (i j : ℕ) → i < m.size → j < m.size → 0 < power m k i j
 
--- k is the least positive number whose power has all entries positive. A matrix that has one is primitive
+-- k is the least positive number whose power has all entries positive. A matrix that has one is
+-- primitive
 pub record IsLeastExponent (m : Square) (k : ℕ) : Type 0 where
   pub some : 0 < k
   pub positive : IsPositivePower m k

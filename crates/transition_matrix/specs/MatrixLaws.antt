@@ -3,7 +3,8 @@ use Rattle.std.specs.Prelude.{◌≡◌, ◌≢◌, ◌<◌, ◌≤◌, ◌*◌,
 use Rattle.transition_matrix.specs.Bounds.{times, column_sum, paired, iterated, IsBounds}
 use Rattle.transition_matrix.specs.Matrices.{Square, entry, power, sum_below, IsPositivePower}
 
--- indices lie in classes, and a column has entries only in rows of the class that its own class goes to
+-- indices lie in classes, and a column has entries only in rows of the class that its own class
+-- goes to
 pub record RespectsClasses (m : Square) (class goes : ℕ → ℕ) : Type 0 where
   pub entries : (i j : ℕ) → i < m.size → j < m.size → 0 < entry m i j → class i ≡ goes (class j)
 
@@ -24,12 +25,17 @@ pub record ColumnSumLaws : Type 0 where
   pub start : (m : Square) (i : ℕ) → i < m.size → column_sum m 0 i ≡ 1
   pub next : (m : Square) (j i : ℕ) → column_sum m (suc j) i ≡ times m (column_sum m j) i
   -- where those of one power are positive, they never fall
-  pub rising : (m : Square) (k j l i : ℕ) → ((r : ℕ) → r < m.size → 0 < column_sum m (suc k) r) → j ≤ l → i < m.size
+  pub rising : (m : Square) (k j l i : ℕ) → ((r : ℕ) → r < m.size → 0 < column_sum m (suc k) r)
+      → j ≤ l → i < m.size
       → column_sum m j i ≤ column_sum m l i
 
 -- a row's bounds bound every column under the powers of the matrix (Perron and Frobenius)
 pub record GrowthLaws : Type 0 where
-  pub at_least : (m : Square) (u : List ℕ) (low high : ℕ × ℕ) (n : ℕ) (y : ℕ → ℕ) → IsBounds m u low high
-      → low.0 ^ n * paired m (slice_index u) y ≤ low.1 ^ n * paired m (slice_index u) (iterated m n y)
-  pub at_most : (m : Square) (u : List ℕ) (low high : ℕ × ℕ) (n : ℕ) (y : ℕ → ℕ) → IsBounds m u low high
-      → high.1 ^ n * paired m (slice_index u) (iterated m n y) ≤ high.0 ^ n * paired m (slice_index u) y
+  pub at_least : (m : Square) (u : List ℕ) (low high : ℕ × ℕ) (n : ℕ) (y : ℕ → ℕ)
+      → IsBounds m u low high
+      → low.0 ^ n * paired m (slice_index u) y ≤ low.1 ^ n * paired m (slice_index u) (iterated m n
+      y)
+  pub at_most : (m : Square) (u : List ℕ) (low high : ℕ × ℕ) (n : ℕ) (y : ℕ → ℕ)
+      → IsBounds m u low high
+      → high.1 ^ n * paired m (slice_index u) (iterated m n y) ≤ high.0 ^ n * paired m (slice_index
+      u) y

@@ -1,5 +1,6 @@
 //! Tables of truth values, as bits of words.
-ghost use Rattle.std.specs.Prelude.{◌≡◌, ◌≢◌, ◌<◌, ◌≤◌, ◌+◌, ◌*◌, ◌/◌, ◌||◌, ◌&&◌, ◌↔◌, ℕ, true, false, length, nat_eq, IsTrue};
+ghost use Rattle.std.specs.Prelude.{◌≡◌, ◌≢◌, ◌<◌, ◌≤◌, ◌+◌, ◌*◌, ◌/◌, ◌||◌, ◌&&◌, ◌↔◌, ℕ, true};
+ghost use Rattle.std.specs.Prelude.{false, length, nat_eq, IsTrue};
 ghost use Rattle.transition_matrix.specs.inside.Bits.{bit, any_below, IsTable};
 
 /// How many bits a word has.
@@ -19,7 +20,8 @@ pub(crate) fn set_bit(words: &mut [u64], width: usize, i: usize, j: usize)
     requires column { j < width * 64 }
     ensures here { bit width words.new i j ≡ true }
     ensures columns { (k : ℕ) → k ≢ j → bit width words.new i k ≡ bit width words.old i k }
-    ensures rows { (l k : ℕ) → l ≢ i → k < width * 64 → bit width words.new l k ≡ bit width words.old l k }
+    ensures rows { (l k : ℕ) → l ≢ i → k < width * 64
+        → bit width words.new l k ≡ bit width words.old l k }
 {
     words[i * width + j / WORD] |= 1 << (j % WORD);
 }
@@ -30,22 +32,26 @@ fn or_row(words: &mut [u64], i: usize, others: &[u64], l: usize, width: usize)
     requires other { l * width + width ≤ length others.now }
     ensures here { (j : ℕ) → j < width * 64
         → bit width words.new i j ≡ (bit width words.old i j || bit width others.now l j) }
-    ensures rows { (k j : ℕ) → k ≢ i → j < width * 64 → bit width words.new k j ≡ bit width words.old k j }
+    ensures rows { (k j : ℕ) → k ≢ i → j < width * 64
+        → bit width words.new k j ≡ bit width words.old k j }
 {
     for t in 0..width {
         words[i * width + t] |= others[l * width + t];
     }
 }
 
-/// Row i of the product of two tables of n rows: true where the first has a value true in that row, and
-/// the second in the column, at one place. The row is false before.
+/// Row i of the product of two tables of n rows: true where the first has a value true in that row,
+/// and the second in the column, at one place. The row is false before.
 fn multiply_row(words: &mut [u64], i: usize, left: &[u64], right: &[u64], n: usize, width: usize)
-    requires tables { IsTable n width words.old × IsTable n width left.now × IsTable n width right.now }
+    requires tables { IsTable n width words.old × IsTable n width left.now
+        × IsTable n width right.now }
     requires row { i < n }
     requires clear { (j : ℕ) → j < width * 64 → bit width words.old i j ≡ false }
     ensures here { (j : ℕ) → j < width * 64
-        → bit width words.new i j ≡ any_below n (λ l. bit width left.now i l && bit width right.now l j) }
-    ensures rows { (k j : ℕ) → k ≢ i → j < width * 64 → bit width words.new k j ≡ bit width words.old k j }
+        → bit width words.new i j ≡ any_below n (λ l. bit width left.now i l && bit width right.now
+        l j) }
+    ensures rows { (k j : ℕ) → k ≢ i → j < width * 64
+        → bit width words.new k j ≡ bit width words.old k j }
 {
     for l in 0..n {
         if bit(left, width, i, l) {
@@ -58,7 +64,8 @@ fn multiply_row(words: &mut [u64], i: usize, left: &[u64], right: &[u64], n: usi
 pub(crate) fn multiply(words: &mut [u64], left: &[u64], right: &[u64], n: usize, width: usize)
     requires { IsTable n width words.old × IsTable n width left.now × IsTable n width right.now }
     ensures { (i j : ℕ) → i < n → j < n
-        → bit width words.new i j ≡ any_below n (λ l. bit width left.now i l && bit width right.now l j) }
+        → bit width words.new i j ≡ any_below n (λ l. bit width left.now i l && bit width right.now
+        l j) }
 {
     words.fill(0);
     for i in 0..n {

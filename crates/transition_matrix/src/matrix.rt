@@ -1,6 +1,9 @@
 //! Matrices of counts.
-ghost use Rattle.std.specs.Prelude.{◌≡◌, ◌≢◌, ◌<◌, ◌≤◌, ◌+◌, ◌*◌, ℕ, [], length, map, replicate, count_by, nat_eq, sum_by, slice_index, nat_lt, All, IfOk, IfSome, IfNone};
-ghost use Rattle.transition_matrix.specs.Matrices.{IsCountOf, IsLeastExponent, IsPositivePower, entry};
+ghost use Rattle.std.specs.Prelude.{◌≡◌, ◌≢◌, ◌<◌, ◌≤◌, ◌+◌, ◌*◌, ℕ, [], length, map, replicate};
+ghost use Rattle.std.specs.Prelude.{count_by, nat_eq, sum_by, slice_index, nat_lt, All, IfOk};
+ghost use Rattle.std.specs.Prelude.{IfSome, IfNone};
+ghost use Rattle.transition_matrix.specs.Matrices.{IsCountOf, IsLeastExponent, IsPositivePower};
+ghost use Rattle.transition_matrix.specs.Matrices.{entry};
 ghost use Rattle.transition_matrix.specs.inside.Bits.{bit, IsTable};
 
 use crate::bits::{is_full, multiply, set_bit};
@@ -80,9 +83,9 @@ fn count_column(entries: &mut [u64], n: usize, j: usize, column: &[u32])
 }
 
 impl Matrix {
-    /// The least number from 1 to the limit for which that power of the matrix has all entries positive
-    /// (a matrix that has one is primitive), and none exactly where there is none up to the limit. The
-    /// room is for a matrix of this size. Takes no memory.
+    /// The least number from 1 to the limit for which that power of the matrix has all entries
+    /// positive (a matrix that has one is primitive), and none exactly where there is none up to
+    /// the limit. The room is for a matrix of this size. Takes no memory.
     pub fn primitive_exponent(&self, scratch: &mut Scratch, limit: u32) -> Option<u32>
         requires { scratch.old ≡ self.now.size }
         ensures some { IfSome result (IsLeastExponent self.now) }
@@ -120,8 +123,8 @@ fn write_signs(matrix: &Matrix, words: &mut [u64], width: usize)
     }
 }
 
-/// The least exponent of a matrix up to a limit, where its signs are written down, with room for two
-/// more tables.
+/// The least exponent of a matrix up to a limit, where its signs are written down, with room for
+/// two more tables.
 fn least_exponent(
     matrix: &Matrix,
     signs: &[u64],

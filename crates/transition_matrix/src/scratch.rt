@@ -6,8 +6,8 @@ use crate::memory::Memory;
 use std::alloc::Global;
 use std::marker::Model;
 
-/// Room for the powers of a matrix of a size, so that `Matrix::primitive_exponent` takes no memory. It
-/// serves matrices of that size one after another. Contracts see its size.
+/// Room for the powers of a matrix of a size, so that `Matrix::primitive_exponent` takes no memory.
+/// It serves matrices of that size one after another. Contracts see its size.
 #[derive(Drop)]
 pub struct Scratch {
     pub(crate) size: usize,
@@ -29,7 +29,8 @@ impl Model for Scratch {
 
     ghost view = { λ a. a.size };
 
-    ghost invariant = { λ a. IsTable a.size a.width a.matrix.items × IsTable a.size a.width a.power.items
+    ghost invariant = { λ a. IsTable a.size a.width a.matrix.items
+        × IsTable a.size a.width a.power.items
         × IsTable a.size a.width a.next.items };
 }
 

@@ -1,5 +1,6 @@
 -- Tables of truth values, row after row, each row as the bits of some words, 64 to a word.
-use Rattle.std.specs.Prelude.{◌≡◌, ◌<◌, ◌+◌, ◌*◌, ◌/◌, ◌%◌, ℕ, zero, suc, List, Bool, false, true, ◌||◌, length, slice_index, nat_eq}
+use Rattle.std.specs.Prelude.{◌≡◌, ◌<◌, ◌+◌, ◌*◌, ◌/◌, ◌%◌, ℕ, zero, suc, List, Bool, false, true}
+use Rattle.std.specs.Prelude.{◌||◌, length, slice_index, nat_eq}
 use Rattle.std.specs.Int.{bit_at}
 
 -- the value in row i and column j, where each row has `width` words

@@ -14,7 +14,8 @@ loop-i-preserved c =
       | then-is_smaller w ↦
           let less = ltb-true _ _ (sym c.is_smaller.ensures ∙ w.if-is_smaller.true) in
           subst P (sym w.least-is)
-          (smaller_ratio c.loop-i.i v u c.loop-i.least c.loop-i.invariant (λ k low. c.requires.positive k 0 (omega arith)) less)
+          (smaller_ratio c.loop-i.i v u c.loop-i.least c.loop-i.invariant (λ k low. c.requires.positive k 0 (omega
+          arith)) less)
       | else-is_smaller w ↦
           let most = ltb-false _ _ (sym c.is_smaller.ensures ∙ w.if-is_smaller.false) in
           subst P (sym w.least-is) (kept_ratio c.loop-i.i v u c.loop-i.least c.loop-i.invariant most)

@@ -12,15 +12,18 @@ returns-clause-rule c =
     = whole_front c.in_ok-u.u.len u _ (c.find_growth.auto.u ∙ c.deref_mut.ensures.len) in
     let v_is : take c.in_ok-v.v.len (v ++ drop (length v) c.in_ok-v.v.items) ≡ v
     = whole_front c.in_ok-v.v.len v _ (c.find_growth.auto.v ∙ c.deref_mut-2.ensures.len) in
-    let low = read_ratio v u _ _ c.least_ratio-low.result (c.deref.ensures.value ∙ v_is) (c.deref-2.ensures.value ∙ u_is) c.least_ratio-low.ensures in
-    let below = read_ratio u v _ _ c.least_ratio-below.result (c.deref-3.ensures.value ∙ u_is) (c.deref-4.ensures.value ∙ v_is) c.least_ratio-below.ensures in
+    let low = read_ratio v u _ _ c.least_ratio-low.result (c.deref.ensures.value ∙ v_is) (c.deref-2.ensures.value
+    ∙ u_is) c.least_ratio-low.ensures in
+    let below = read_ratio u v _ _ c.least_ratio-below.result (c.deref-3.ensures.value
+    ∙ u_is) (c.deref-4.ensures.value ∙ v_is) c.least_ratio-below.ensures in
     let found : IsFound c.args.m.now u v = c.find_growth.ensures.found c.if-not-find_growth.false in
     let done = ruled c.args.m.now u v c.least_ratio-low.result c.least_ratio-below.result found low below in
     record {
       number = done.number;
       first = done.first;
       size = let P : List ℕ → Type 0 = λ us. length us ≡ c.args.m.now.size in subst P (sym u_is) done.size;
-      row_is = λ i within. let P : List ℕ → Type 0 = λ us. slice_index us i ≡ column_sum c.args.m.now done.number i in subst P (sym u_is) (done.row_is i within);
+      row_is = λ i within. let P : List ℕ → Type 0 = λ us. slice_index us i
+          ≡ column_sum c.args.m.now done.number i in subst P (sym u_is) (done.row_is i within);
       low = done.least;
       high = done.most;
     }
@@ -33,9 +36,14 @@ returns-clause-bounds c =
     = whole_front c.in_ok-u.u.len u _ (c.find_growth.auto.u ∙ c.deref_mut.ensures.len) in
     let v_is : take c.in_ok-v.v.len (v ++ drop (length v) c.in_ok-v.v.items) ≡ v
     = whole_front c.in_ok-v.v.len v _ (c.find_growth.auto.v ∙ c.deref_mut-2.ensures.len) in
-    let low = read_ratio v u _ _ c.least_ratio-low.result (c.deref.ensures.value ∙ v_is) (c.deref-2.ensures.value ∙ u_is) c.least_ratio-low.ensures in
-    let below = read_ratio u v _ _ c.least_ratio-below.result (c.deref-3.ensures.value ∙ u_is) (c.deref-4.ensures.value ∙ v_is) c.least_ratio-below.ensures in
+    let low = read_ratio v u _ _ c.least_ratio-low.result (c.deref.ensures.value ∙ v_is) (c.deref-2.ensures.value
+    ∙ u_is) c.least_ratio-low.ensures in
+    let below = read_ratio u v _ _ c.least_ratio-below.result (c.deref-3.ensures.value
+    ∙ u_is) (c.deref-4.ensures.value ∙ v_is) c.least_ratio-below.ensures in
     let found : IsFound c.args.m.now u v = c.find_growth.ensures.found c.if-not-find_growth.false in
     let done = bounding c.args.m.now u v c.least_ratio-low.result c.least_ratio-below.result found low below in
-    let P : List ℕ → Type 0 = λ us. IsBounds c.args.m.now us c.least_ratio-low.result (c.least_ratio-below.result.1, c.least_ratio-below.result.0) in
+    let P : List ℕ → Type 0 = λ us. IsBounds c.args.m.now us c.least_ratio-low.result (
+      c.least_ratio-below.result.1,
+      c.least_ratio-below.result.0,
+    ) in
     subst P (sym u_is) done

@@ -1,4 +1,5 @@
-use Rattle.std.proofs.Common.{◌≡◌, ◌<◌, ◌≤◌, ◌*◌, ◌+◌, ℕ, length, All, slice_index, slice_index_or, count_by, take, nat_eq, refl, ◌∙◌, ap, subst, arith, w64, Fits}
+use Rattle.std.proofs.Common.{◌≡◌, ◌<◌, ◌≤◌, ◌*◌, ◌+◌, ℕ, length, All, slice_index, slice_index_or, count_by, take}
+use Rattle.std.proofs.Common.{nat_eq, refl, ◌∙◌, ap, subst, arith, w64, Fits}
 use Rattle.std.proofs.lemmas.List.{take_all}
 use Rattle.transition_matrix.proofs.Places.{counted_more, counted_others, count_small}
 use Rattle.transition_matrix.proofs.matrix.count_column.Goals as goal
@@ -10,7 +11,8 @@ pub overflow_add-entries-in-loop-i : goal.overflow_add-entries-in-loop-i
 overflow_add-entries-in-loop-i c =
     let row = c.requires.rows c.loop-i.i-index 0 c.loop-i-test.true in
     let is = c.loop-i.invariant.0 (slice_index c.args.column.now c.loop-i.i-index) row in
-    let small = count_small (nat_eq (slice_index c.args.column.now c.loop-i.i-index)) c.args.column.now c.loop-i.i-index (omega arith) in
+    let small = count_small (nat_eq (slice_index c.args.column.now c.loop-i.i-index)) c.args.column.now
+    c.loop-i.i-index (omega arith) in
     omega arith
 
 pub loop-i-preserved : goal.loop-i-preserved

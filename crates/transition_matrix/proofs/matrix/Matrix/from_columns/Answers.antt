@@ -1,4 +1,5 @@
-use Rattle.std.proofs.Common.{◌≡◌, ◌<◌, ◌+◌, ◌*◌, ◌++◌, ℕ, List, [], map, length, take, drop, slice_index, slice_index_or, count_by, nat_eq, sym, ◌∙◌, ap, subst, arith}
+use Rattle.std.proofs.Common.{◌≡◌, ◌<◌, ◌+◌, ◌*◌, ◌++◌, ℕ, List, [], map, length, take, drop, slice_index}
+use Rattle.std.proofs.Common.{slice_index_or, count_by, nat_eq, sym, ◌∙◌, ap, subst, arith}
 use Rattle.std.proofs.lemmas.List.{get_or-map}
 use Rattle.transition_matrix.proofs.Counted.{IsCounted, counted_next, whole_front}
 use Rattle.transition_matrix.proofs.matrix.Matrix.from_columns.Goals as goal
