@@ -118,7 +118,8 @@ images_after : Given → (m : Move) (moves : List Move) (words : List (List ℤ)
 images_after g m moves [] = tt
 images_after g m moves (word ∷ words) = (
   g.lower.words.curves.back (cyclic_reduce (rest (cyclic_reduce first))) (cyclic_reduce whole)
-      (g.lower.words.curves.along (cyclic_reduce (rest (cyclic_reduce first))) (cyclic_reduce (rest first)) (cyclic_reduce whole)
+      (g.lower.words.curves.along (cyclic_reduce (rest (cyclic_reduce first))) (cyclic_reduce (rest first))
+      (cyclic_reduce whole)
       (inl ((substitution_laws g.lower).cyclic (path_map moves) first
       (path_map-odd g.lower moves)))
       (inl (g.lower.words.cyclic.conjugate [] (rest first) whole

@@ -24,7 +24,8 @@ use Rattle.tri_atlas.proofs.Vectors.CarriedRuns.{Carries, carries}
 
 same_state-apart : LowerLaws → (n : ℕ) (q p : State) → is_on n q ≡ false → is_on n p ≡ true → same_state q p ≡ false
 same_state-apart laws n q p off on =
-    and_left (int_eq q.label p.label) (eqb q.place p.place) (laws.labels.test_other q.label p.label (λ e. apart (ap edge_of e)))
+    and_left (int_eq q.label p.label) (eqb q.place p.place)
+    (laws.labels.test_other q.label p.label (λ e. apart (ap edge_of e)))
   where
     apart : edge_of q.label ≢ edge_of p.label
     apart e = let yes : is_on n q ≡ true = eq-eqb (edge_of q.label) n (e ∙ eqb-true (edge_of p.label) n on) in cc

@@ -93,7 +93,8 @@ module _ (laws : LowerLaws) (here there : List (List ℤ)) (w v : List ℕ) (n :
       (ap (λ (u : List ℤ). I ++ u) (sym (append_assoc e z W)) ∙ sym (append_assoc I (e ++ z) W))
       ∙ laws.words.reduction.right P (y ∷ ((I ++ (e ++ z)) ++ W)) (y ∷ (e' ++ W))
       (laws.words.reduction.right (y ∷ []) ((I ++ (e ++ z)) ++ W) (e' ++ W)
-      (laws.words.reduction.left (I ++ (e ++ z)) e' W (sym (laws.words.reduction.twice (I ++ (e ++ z))) ∙ ap reduce between)))
+      (laws.words.reduction.left (I ++ (e ++ z)) e' W
+      (sym (laws.words.reduction.twice (I ++ (e ++ z))) ∙ ap reduce between)))
 
   -- from a state off the edge
   carries_off : (q r : State) (run : List State) → IsStrand here w q → is_on n q ≡ false

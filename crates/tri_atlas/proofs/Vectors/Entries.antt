@@ -32,8 +32,8 @@ length-after laws before target (unflip e a b c d) w h long =
 length-after laws before target (relabel images) w h long = length-moved laws before target images w h
 
 -- the entries after a move are below the bound, where the new number of a flip is
-pub below-after : LowerLaws → (bound : ℕ) (before target : List (List ℤ)) (m : Move) (w : List ℕ) → IsMove before target m
-    → length w ≡ edge_count before
+pub below-after : LowerLaws → (bound : ℕ) (before target : List (List ℤ)) (m : Move) (w : List ℕ)
+    → IsMove before target m → length w ≡ edge_count before
     → Below bound w → (IsOver bound m w → ⊥) → Below bound (vector_after m w)
 below-after laws bound before target (flip e a b c d) w h long all under =
     All-set (λ n. n < bound) w (edge_of e) (flipped_number w e a b c d)
@@ -50,7 +50,8 @@ below-after laws bound before target (unflip e a b c d) w h long all under =
 below-after laws bound before target (relabel images) w h long all under =
     All-from_get_or (λ n. n < bound) (map (weight w) (inverse_images images)) 0
     (λ k b. entry k
-    (origin laws before target images (pos k) h (subst (λ (n : ℕ). k < n) (length-moved laws before target images w h) b)))
+    (origin laws before target images (pos k) h
+    (subst (λ (n : ℕ). k < n) (length-moved laws before target images w h) b)))
   where
     entry : (k : ℕ) → HasOrigin before images (pos k) → get_or (map (weight w) (inverse_images images)) k 0 < bound
     entry k o =

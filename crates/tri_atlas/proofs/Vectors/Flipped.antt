@@ -130,7 +130,8 @@ module _ (g : Given) (before target : List (List ℤ)) (e a b c d : ℤ) (p : Is
     pub flip_multicurve : (v : List ℕ) → IsFlippedVector w v e a b c d → IsMulticurve target v
     flip_multicurve v new =
         multicurve_of_sums g target v t (new.long ∙ m.one_per_edge ∙ sym edges)
-        (sums_moved g.lower before target w v e (inverse e) a b c d d a b c (g.lower.surfaces.triangles before p) here there
+        (sums_moved g.lower before target w v e (inverse e) a b c d d a b c
+        (g.lower.surfaces.triangles before p) here there
         (λ x q. record {
           from_e = q.from_e;
           from_a = q.from_b;
@@ -163,7 +164,8 @@ module _ (g : Given) (before target : List (List ℤ)) (e a b c d : ℤ) (p : Is
     pub unflip_multicurve : (w : List ℕ) → IsFlippedVector v w e a b c d → IsMulticurve before w
     unflip_multicurve w new =
         multicurve_of_sums g before w p (new.long ∙ m.one_per_edge ∙ edges)
-        (sums_moved g.lower target before v w e (inverse e) d a b c a b c d (g.lower.surfaces.triangles target t) there here
+        (sums_moved g.lower target before v w e (inverse e) d a b c a b c d
+        (g.lower.surfaces.triangles target t) there here
         (λ x q. record {
           from_e = q.from_e;
           from_a = q.from_d;

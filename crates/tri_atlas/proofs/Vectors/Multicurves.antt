@@ -122,7 +122,9 @@ sums_moved laws here there w v e f a b c d a' b' c' d' triangles s t turn edges 
         lz = triangles.label (next here x) ly
 
         z_away : IsApartFrom e f a b c d (previous here x)
-        z_away = next_apart laws here e f a b c d triangles s (next here x) ly (next_apart laws here e f a b c d triangles s x l q)
+        z_away =
+            next_apart laws here e f a b c d triangles s (next here x) ly
+            (next_apart laws here e f a b c d triangles s x l q)
 
     go : (x : ℤ) → IsLabel there x → Place e f a' b' c' d' x → IsSum there v x
     go x l (at_e k) = at e x k (is_sum there v e a' b' t.after_e t.after_a t.after_b first.first)

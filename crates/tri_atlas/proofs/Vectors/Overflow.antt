@@ -90,7 +90,8 @@ module _ (g : Given) (before target : List (List ℤ)) (moves : List Move) (w : 
       let s : MoveOf before moves k = move_of before target moves k h o.within in
       let l : length (vector_along (take k moves) w) ≡ edge_count s.from = long k
       ∙ sym (path_edges g.lower before s.from (take k moves) s.path) in
-      let there = entry-flipped g.lower s.from s.to (move_at moves k) (vector_along (take k moves) w) s.move l o.over.0 in (
+      let there =
+      entry-flipped g.lower s.from s.to (move_at moves k) (vector_along (take k moves) w) s.move l o.over.0 in (
         subst (λ (n : ℕ). flipped_edge (move_at moves k) < n) (long k) there.0,
         ap (λ (u : List ℕ). slice_index u (flipped_edge (move_at moves k))) (vector_along-next moves k w o.within)
             ∙ there.1,

@@ -29,18 +29,21 @@ use Rattle.tri_atlas.proofs.Vectors.Carried.{IsPassing}
 -- ---- a flip
 
 -- from the edge a strand goes to one of the four sides
-step_off_e : LowerLaws → (triples : List (List ℤ)) (w : List ℕ) (e f a b c d : ℤ) → Quadrilateral triples e f a b c d → (q : State)
+step_off_e : LowerLaws → (triples : List (List ℤ)) (w : List ℕ) (e f a b c d : ℤ)
+    → Quadrilateral triples e f a b c d → (q : State)
     → inverse q.label ≡ e → edge_of (strand_step triples w q).label ≢ edge_of e
 step_off_e laws triples w e f a b c d s q at =
     beside laws triples w (λ x. edge_of x ≢ edge_of e) q
     (λ k. s.off_a (ap edge_of (sym (ap (next triples) at ∙ s.after_e)) ∙ k))
     (λ k. s.off_b (ap edge_of (sym (ap (previous triples) at ∙ before_e triples e f a b c d s)) ∙ k))
 
-step_off : LowerLaws → (triples : List (List ℤ)) (w : List ℕ) (e f a b c d : ℤ) → Quadrilateral triples e f a b c d → (q : State)
+step_off : LowerLaws → (triples : List (List ℤ)) (w : List ℕ) (e f a b c d : ℤ)
+    → Quadrilateral triples e f a b c d → (q : State)
     → is_on (edge_of e) q ≡ true → is_on (edge_of e) (strand_step triples w q) ≡ false
 step_off laws triples w e f a b c d s q on =
     ne_eqb (edge_of (strand_step triples w q).label) (edge_of e)
-    (elim (laws.labels.of_edge (inverse q.label) e (laws.labels.edge q.label ∙ eqb-true (edge_of q.label) (edge_of e) on)) [
+    (elim (laws.labels.of_edge (inverse q.label) e
+    (laws.labels.edge q.label ∙ eqb-true (edge_of q.label) (edge_of e) on)) [
       | inl k ↦ step_off_e laws triples w e f a b c d s q k
       | inr k ↦
           (λ same.
@@ -49,7 +52,8 @@ step_off laws triples w e f a b c d s q on =
     ])
 
 -- what a flip puts before the letters of the sides
-flip_prefixes : LowerLaws → (triples : List (List ℤ)) (e f a b c d : ℤ) → TriangleLaws triples → Quadrilateral triples e f a b c d
+flip_prefixes : LowerLaws → (triples : List (List ℤ)) (e f a b c d : ℤ) → TriangleLaws triples
+    → Quadrilateral triples e f a b c d
     → Prefixes (step_before e b d) e f a b c d
 flip_prefixes laws triples e f a b c d t s = record {
   at_a =
@@ -58,7 +62,8 @@ flip_prefixes laws triples e f a b c d t s = record {
   at_b = step_before-b laws e b d b refl;
   at_c =
       step_before-other laws e b d c
-      (λ k. s.off_d (ap edge_of (sym s.after_c ∙ ap (next triples) k ∙ s.after_b) ∙ sym (one_edge laws e f s.f_is))) c_not_d;
+      (λ k. s.off_d (ap edge_of (sym s.after_c ∙ ap (next triples) k ∙ s.after_b) ∙ sym (one_edge laws e f s.f_is)))
+      c_not_d;
   at_d = step_before-d laws e b d d d_not_b refl ∙ ap (λ (x : ℤ). x ∷ []) (sym s.f_is);
 }
   where
@@ -90,7 +95,8 @@ flip_passing laws here there w v e f a b c d steps steps' m k h = record {
   };
   numbers = h.numbers;
   passes = λ q off s.
-      passes laws here there w v e f a b c d h (step_before e b d) (flip_prefixes laws here e f a b c d h.triangles h.sides_here)
+      passes laws here there w v e f a b c d h (step_before e b d)
+      (flip_prefixes laws here e f a b c d h.triangles h.sides_here)
       (step_before-other laws e b d) q s (not_on (edge_of e) q off);
   plain = λ x on.
       step_before-other laws e b d x (λ k. h.sides_here.off_b (ap edge_of (sym k) ∙ on))

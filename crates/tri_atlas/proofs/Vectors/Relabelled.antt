@@ -33,7 +33,8 @@ module _ (laws : LowerLaws) (before target : List (List ℤ)) (images : List ℤ
       → weight (map (weight w) (inverse_images images)) (image_of images x) ≡ weight w x
   weight-image x l =
       weight-moved laws w images (image_of images x)
-      (subst (λ (n : ℕ). edge_of (image_of images x) < n) (sym (h.one_per_edge ∙ laws.relabellings.edges before target images h))
+      (subst (λ (n : ℕ). edge_of (image_of images x) < n)
+      (sym (h.one_per_edge ∙ laws.relabellings.edges before target images h))
       (laws.relabellings.label before target images x h l))
       ∙ ap (weight w) (image_undone laws before target images x h l)
 

@@ -43,7 +43,9 @@ module _ (g : Given) (before target : List (List ℤ)) (images : List ℤ) (p : 
       → int_eq (image_of images x) (image_of images y) ≡ int_eq x y
   same_letter x y lx ly =
       elim (g.lower.labels.same_or_not x y) [
-        | inl e ↦ g.lower.labels.test_same (image_of images x) (image_of images y) (ap (image_of images) e) ∙ sym (g.lower.labels.test_same x y e)
+        | inl e ↦
+            (g.lower.labels.test_same (image_of images x) (image_of images y) (ap (image_of images) e)
+            ∙ sym (g.lower.labels.test_same x y e))
         | inr ne ↦
             (g.lower.labels.test_other (image_of images x) (image_of images y)
             (λ e. ne (sym (image_undone g.lower before target images x h lx) ∙ ap
