@@ -8,8 +8,12 @@ use Rattle.transition_matrix.specs.Bounds.{times, column_sum, IsBounds}
 use Rattle.growth_bounds.specs.Rule.{IsLeastRatio, turned, IsFirstGrowth}
 use Rattle.growth_bounds.specs.inside.Reached.{IsFound}
 
-pub whole_front : (n : ℕ) (xs ys : List ℕ) → length xs ≡ n → take n (xs ++ ys) ≡ xs
-whole_front n xs ys e = ap (λ (m : ℕ). take m (xs ++ ys)) (sym e) ∙ take-append_seam xs ys
+-- what is read from a vector whose items were all written anew
+pub written : (n : ℕ) (new items read : List ℕ) → length new ≡ n → read ≡ take n (new ++ drop (length new) items)
+    → read ≡ new
+written n new items read size is =
+    is ∙ ap (λ (m : ℕ). take m (new ++ drop (length new) items)) (sym size)
+    ∙ take-append_seam new (drop (length new) items)
 
 -- ratios of the same numbers
 pub same_ratio : (n k : ℕ) (v u w x : ℕ → ℕ) (pair : ℕ × ℕ) → k ≡ n → ((i : ℕ) → i < n → v i ≡ w i) → ((i : ℕ)
