@@ -22,4 +22,5 @@ repeated_no_gluing ts x r h = two r.again
         ∙ is in
         let second : get_or (labels_of ts) r.place (pos 0) ≡ x =
         get_or_default (labels_of ts) r.place (pos 0) x r.within ∙ r.is in
-        distinct_of_counts (labels_of ts) (IsOnce-triangulation ts h).once k r.place (omega arith) r.within (first ∙ sym second)
+        distinct_of_counts (labels_of ts) (IsOnce-triangulation ts h).once k r.place (omega arith) r.within
+        (first ∙ sym second)

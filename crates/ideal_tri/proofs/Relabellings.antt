@@ -25,7 +25,7 @@ use Rattle.ideal_tri.proofs.Rotations.{Rotation-map}
 use Rattle.ideal_tri.proofs.Cyclic.{cyclic_reduce-fixed}
 use Rattle.ideal_tri.proofs.Triangles.{triangle_laws}
 use Rattle.ideal_tri.proofs.Triples.{three_listed, stands_in, at_label, sides, IsTriangleOf-turned}
-use Rattle.ideal_tri.proofs.Drawings.{drawing_walks, drawing_reduced}
+use Rattle.ideal_tri.proofs.Drawings.Words.{drawing_walks, drawing_reduced}
 use Rattle.ideal_tri.proofs.Crossings.{drawing_counts}
 use Rattle.ideal_tri.proofs.Hits.{place_of_hit, length_by_hits}
 use Rattle.ideal_tri.proofs.Bijections.{image_in_range, image_of-map, bijection_through, hits-image}

@@ -60,7 +60,7 @@ label_below k n h = below_of_rank (label_of_rank k) n (omega (arith, rank-label_
 pub corner_step_label : (ts : List (List ℤ)) → TriangleLaws ts → (x : ℤ) → IsLabel ts x → IsLabel ts (corner_step ts x)
 corner_step_label ts h x l = inverse_label ts (next ts x) (h.label x l)
 
-corner_step-injective : (ts : List (List ℤ)) → TriangleLaws ts → (x y : ℤ) → IsLabel ts x → IsLabel ts y
+pub corner_step-injective : (ts : List (List ℤ)) → TriangleLaws ts → (x y : ℤ) → IsLabel ts x → IsLabel ts y
     → corner_step ts x ≡ corner_step ts y → x ≡ y
 corner_step-injective ts h x y l m e =
     let same : next ts x ≡ next ts y = sym (inverse-inverse (next ts x)) ∙ ap inverse e ∙ inverse-inverse (next ts y) in

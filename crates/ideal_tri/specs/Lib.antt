@@ -8,6 +8,9 @@ pub mod Strands
 pub mod Peripheral
 pub mod LabelLaws
 pub mod WordLaws
+pub mod Drawings
+pub mod DrawingLaws
+pub mod StrandLaws
 pub mod SurfaceLaws
 pub mod Relabellings
 pub mod HitLaws
@@ -17,6 +20,8 @@ pub mod Flips
 pub mod FlipLaws
 pub mod Vertices
 pub mod VertexLaws
+pub mod PeripheralParts
+pub mod CornerLaws
 pub mod TripleLaws
 pub mod Components
 pub mod ComponentLaws

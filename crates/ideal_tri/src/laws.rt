@@ -2,8 +2,13 @@
 //!
 //! The functions do nothing: each is called, in a body or by a layer above, where a proof needs
 //! what its contract says.
+ghost use Rattle.std.specs.Prelude.{ℤ, List};
+ghost use Rattle.ideal_tri.specs.Triangulations.{IsTriangulation};
 ghost use Rattle.ideal_tri.specs.LabelLaws.{LabelLaws};
 ghost use Rattle.ideal_tri.specs.WordLaws.{WordLaws};
+ghost use Rattle.ideal_tri.specs.DrawingLaws.{DrawingLaws, SameCurvesLaws};
+ghost use Rattle.ideal_tri.specs.StrandLaws.{StrandLaws};
+ghost use Rattle.ideal_tri.specs.CornerLaws.{CornerLaws};
 ghost use Rattle.ideal_tri.specs.SurfaceLaws.{SurfaceLaws};
 ghost use Rattle.ideal_tri.specs.FlipLaws.{FlipLaws};
 ghost use Rattle.ideal_tri.specs.TripleLaws.{TripleLaws};
@@ -23,7 +28,31 @@ pub fn word_laws()
     ensures { WordLaws }
 {}
 
-/// What is proved of triangulations, walks and the drawings of a vector.
+/// What is proved of lists of closed words up to order, rotation and direction.
+pub fn same_curves_laws()
+    ensures { SameCurvesLaws }
+{}
+
+/// What is proved of the drawings of a vector: they exist, their words are unique up to order,
+/// rotation and direction, and one begins each curve at its least strand, in rising order.
+pub fn drawing_laws()
+    ensures { (triples : List (List ℤ)) → IsTriangulation triples → DrawingLaws triples }
+{}
+
+/// What is proved of the steps of strands: where they lead, and how the curves of a drawing are
+/// found strand by strand.
+pub fn strand_laws()
+    ensures { (triples : List (List ℤ)) → IsTriangulation triples → StrandLaws triples }
+{}
+
+/// What is proved of the corners of a vector: it is a multicurve where its sides are sums of counts
+/// at corners, it has a curve round a vertex exactly where all corners there have strands, and
+/// these curves can be taken off.
+pub fn corner_laws()
+    ensures { (triples : List (List ℤ)) → IsTriangulation triples → CornerLaws triples }
+{}
+
+/// What is proved of triangulations, and of walks on them.
 pub fn surface_laws()
     ensures { SurfaceLaws }
 {}

@@ -9,9 +9,10 @@
 //! A contract sees a `Label` as its number and a `Tri` as the list of its triples. The definitions
 //! stand in `specs/`, to be read in this order: `Labels`, `Words` (free and cyclic reduction),
 //! `Triangulations` (next sides, walks), `Components`, `Refusals`, `Curves` (closed words up to
-//! rotation and direction), `Vectors` (multicurves), `Strands` (drawings), `Peripheral`,
-//! `Vertices`, `Flips`, `Relabellings`. The files named after them with `Laws` state what is proved
-//! of them. What serves the private fields of `Tri` alone stands in `specs/inside/`.
+//! rotation and direction), `Vectors` (multicurves), `Strands` (drawings), `Drawings` (the one from
+//! the least strands on), `Peripheral`, `Vertices`, `PeripheralParts`, `Flips`, `Relabellings`. The
+//! files named after them with `Laws` state what is proved of them. What serves the private fields
+//! of `Tri` alone stands in `specs/inside/`.
 #![tactic(auto)]
 
 mod component;
@@ -25,8 +26,9 @@ mod vertex;
 pub use images::inverse_images;
 pub use label::Label;
 pub use laws::{
-    bijection_laws, component_laws, flip_laws, hit_laws, label_laws, relabelling_laws,
-    surface_laws, triple_laws, vertex_laws, word_laws,
+    bijection_laws, component_laws, corner_laws, drawing_laws, flip_laws, hit_laws, label_laws,
+    relabelling_laws, same_curves_laws, strand_laws, surface_laws, triple_laws, vertex_laws,
+    word_laws,
 };
 pub use memory::Memory;
 pub use tri::{EDGES, Tri, TriError};

@@ -27,9 +27,10 @@ pub(crate) const LABELS: usize = 2 * EDGES;
 const NOWHERE: u8 = 255;
 
 /// An ideal triangulation of a punctured surface (after Bell's flipper): at most 32 triangles and
-/// 48 edges, in fixed memory. Triangles are numbered from 0; the sides of each are numbered 0, 1
-/// and 2, anticlockwise, and carry the labels by which they are glued: side `x` to side `-1 - x`.
-/// The triples of labels are kept in the order and the rotation in which they came.
+/// 48 edges, in one component or several, in fixed memory. Triangles are numbered from 0; the sides
+/// of each are numbered 0, 1 and 2, anticlockwise, and carry the labels by which they are glued:
+/// side `x` to side `-1 - x`. The triples of labels are kept in the order and the rotation in which
+/// they came.
 #[derive(Clone, Copy, Debug, PartialEq, Eq)]
 pub struct Tri {
     // the number of triangles
@@ -52,7 +53,7 @@ pub enum TriError {
     LabelRange(i32),
     /// The first label read a second time.
     LabelTwice(i32),
-    /// The least triangle that can't be reached from triangle 0.
+    /// The least triangle that can't be reached from triangle 0. Only `from_triples` gives it.
     Disconnected(u64),
 }
 
@@ -109,7 +110,8 @@ impl Tri {
         ensures accepted { IfOk result (λ t. IsTriangulation triples.now × (t ≡ triples.now)) }
         ensures size { IfOk result (λ _. IsOfGoodSize triples.now) }
         ensures refused { IfErr result (IsRefusedGluing triples.now) }
-        ensures exact { IfErr result (λ _. ¬ (IsOfGoodSize triples.now × IsTriangulation triples.now)) }
+        ensures exact { IfErr result (λ _. ¬ (IsOfGoodSize triples.now
+            × IsTriangulation triples.now)) }
     {
         if triples.is_empty() {
             return Err(TriError::NoTriangle);
