@@ -17,8 +17,8 @@ use Rattle.flipper_cli.specs.declared.surface.SurfaceRefusal.TheVariants.{Images
 abbrev pub IsWhole : List (List ℤ) → Type 0
 IsWhole ts = IsOfGoodSize ts × IsTriangulation ts × IsConnected ts
 
-pub refused_triangles : (told : Option (List (List ℤ))) (triples read : List (List ℤ)) → Some triples ≡ told → read ≡ triples
-    → ¬ IsWhole read → (ts : List (List ℤ)) → told ≡ Some ts → ¬ IsWhole ts
+pub refused_triangles : (told : Option (List (List ℤ))) (triples read : List (List ℤ)) → Some triples ≡ told
+    → read ≡ triples → ¬ IsWhole read → (ts : List (List ℤ)) → told ≡ Some ts → ¬ IsWhole ts
 refused_triangles told triples read tells is refused ts says good =
     let same : ts ≡ read = cc in
     refused (subst IsWhole same good)
