@@ -1,7 +1,7 @@
 //! The program: the words from the system, the real files and streams, and the exit status.
 //!
-//! All that it does is `flipper_cli::run` over these; its files are read by their names, relative to
-//! the folder that the program is started in.
+//! All that it does is `flipper_cli::run` over these; its files are read by their names, relative
+//! to the folder that the program is started in.
 //!
 //! ```text
 //! flipper image sphere3.json r 2,1,1

@@ -1,18 +1,20 @@
 -- What a run answers, from what the work found and how it was written.
-use Rattle.std.proofs.Common.{◌≡◌, ◌⊎◌, inl, inr, ℕ, List, [], Option, Some, None, Result, Ok, Err, Vec, String, IfOk, IsErrOf, refl, sym, ap, subst, ◌∙◌, arith}
+use Rattle.std.proofs.Common.{◌≡◌, ◌⊎◌, inl, inr, ℕ, List, [], Option, Result, Ok, Err, Vec, String, IfOk}
+use Rattle.std.proofs.Common.{IsErrOf, refl, sym, ap, ◌∙◌, arith}
 use Rattle.std.specs.declared.alloc.Global.{Global}
 use Rattle.flip_io.specs.Counts.{Rose, raised}
 use Rattle.flip_io.specs.Files.{Files}
 use Rattle.flip_io.specs.Taken.{Took}
 use Rattle.flip_io.specs.declared.shelf.ShelfFault.TheVariants.{Absent as FileAbsent, Failed as ReadFailed}
 use Rattle.flipper_cli.specs.Answers.{Report, refused, status_of}
-use Rattle.flipper_cli.specs.Command.{Command, command, image, IsReadBy}
-use Rattle.flipper_cli.specs.Report.{IsFileReport, IsReport}
-use Rattle.flipper_cli.specs.Run.{IsAnswer, IsLacking, IsQuiet, IsReported, IsWritten, ReadRaised, SinkRaised, TellsNoFault, shown}
-use Rattle.flipper_cli.specs.declared.report.Status.{Status}
-use Rattle.flipper_cli.specs.declared.report.Status.TheVariants.{Done, ShelfFault, SinkFault, Memory as NoMemory}
-use Rattle.flipper_cli.specs.declared.report.Refusal.{Refusal}
-use Rattle.flipper_cli.specs.declared.report.Refusal.TheVariants.{Usage, Absent, Failed, SurfaceNotBuilt, SurfaceRefused, WordNotBuilt, WordRefused, CoordinatesRefused, Memory}
+use Rattle.flipper_cli.specs.Run.{IsAnswer, IsQuiet, IsReported, IsWritten, ReadRaised, SinkRaised}
+use Rattle.flipper_cli.specs.Run.{shown}
+use Rattle.flipper_cli.specs.declared.answers.Status.{Status}
+use Rattle.flipper_cli.specs.declared.answers.Status.TheVariants.{Done, ShelfFault, SinkFault, Memory as NoMemory}
+use Rattle.flipper_cli.specs.declared.answers.Refusal.{Refusal}
+use Rattle.flipper_cli.specs.declared.answers.Refusal.TheVariants.{Usage, Absent, Failed, SurfaceNotBuilt}
+use Rattle.flipper_cli.specs.declared.answers.Refusal.TheVariants.{SurfaceRefused, WordNotBuilt, WordRefused}
+use Rattle.flipper_cli.specs.declared.answers.Refusal.TheVariants.{CoordinatesRefused, Memory}
 
 -- ---- refusals by their status
 
@@ -78,7 +80,8 @@ lacking made status o o' e e' is (inl w) = inl (w.0 ∙ ap (λ (r : Result (Vec 
 lacking made status o o' e e' is (inr w) = inr w.0
 
 -- with the status of success the output took the bytes that were made
-pub taken : (Means : List ℕ → Type 0) (made : Result (Vec ℕ Global) Refusal) (status : Status) (o o' e e' : Option (List ℕ))
+pub taken : (Means : List ℕ → Type 0) (made : Result (Vec ℕ Global) Refusal) (status : Status)
+    (o o' e e' : Option (List ℕ))
     → IfOk made (λ bytes. Means bytes.items) → IsWritten (shown made) status o o' e e' → status ≡ Done
     → (printed : List ℕ) × Took o o' printed × Means printed
 taken Means (Ok bytes) status o o' e e' means (inl w) done = (bytes.items, w.1, means)

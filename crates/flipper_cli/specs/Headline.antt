@@ -8,9 +8,10 @@ use Rattle.ideal_tri.specs.Triangulations.{edge_count}
 use Rattle.ideal_tri.specs.Vectors.{IsMulticurve}
 use Rattle.ideal_tri.specs.Relabellings.{reduced_images}
 use Rattle.flipper_cli.specs.Command.{Command, image}
-use Rattle.flipper_cli.specs.Coordinates.{coordinates_in, line_of}
+use Rattle.flipper_cli.specs.Line.{line_of}
 use Rattle.flipper_cli.specs.Report.{IsSurface, images_of}
 use Rattle.flipper_cli.specs.Surfaces.{Surface}
+use Rattle.flipper_cli.specs.Vectors.{coordinates_in}
 
 -- v counts, edge by edge, how often the images of the curves of w cross it, however these curves are drawn
 pub record IsCounted (s : Surface) (images : List ℤ) (w v : List ℕ) : Type 0 where

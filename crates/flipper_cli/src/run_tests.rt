@@ -270,8 +270,8 @@ fn run_surely(
     out: &mut SureSink,
     err: &mut SureSink,
 ) -> Status
-    ensures read { result ≡ Status.ShelfFault ShelfFault.Failed → ⊥ }
-    ensures write { result ≡ Status.SinkFault → ⊥ }
+    ensures read { ¬ (result ≡ Status.ShelfFault ShelfFault.Failed) }
+    ensures write { ¬ (result ≡ Status.SinkFault) }
 {
     run(alloc, words, shelf, out, err)
 }

@@ -6,29 +6,17 @@ ghost use Rattle.flip_io.specs.Reads.{AfterReads};
 ghost use Rattle.flipper_cli.specs.Answers.{refused};
 ghost use Rattle.flipper_cli.specs.Command.{IsReadBy, command};
 ghost use Rattle.flipper_cli.specs.Headline.{IsHeadline, IsImage};
-ghost use Rattle.flipper_cli.specs.Refusals.{refusal_of};
 ghost use Rattle.flipper_cli.specs.Report.{IsFileReport};
 ghost use Rattle.flipper_cli.specs.Run.{IsAnswer, IsLacking, IsOver, ReadRaised, shown};
 
+use crate::answers::Refusal;
 use crate::command::{Command, command_of};
 use crate::image::image;
-use crate::report::Refusal;
-use flip_io::{ReadError, Shelf, read_all};
+use flip_io::{Shelf, read_all};
 use std::alloc::Global;
 
 /// The most bytes of a surface file.
 const SURFACE_LIMIT: u64 = 1_048_576;
-
-fn refusal_of(error: ReadError) -> Refusal
-    ensures { result ≡ refusal_of error }
-{
-    match error {
-        ReadError::Absent => Refusal::Absent,
-        ReadError::Failed => Refusal::Failed,
-        ReadError::TooLong => Refusal::SurfaceRefused,
-        ReadError::Memory => Refusal::Memory,
-    }
-}
 
 /// `image FILE WORD COORDS`.
 fn image_of_file<S: Shelf>(
@@ -64,10 +52,8 @@ fn image_of_file<S: Shelf>(
     ensures some_file { IfOk result (λ bytes.
         (found : List ℕ) × IsImage found word.now coordinates.now bytes.items) }
 {
-    match read_all(alloc, shelf, file, SURFACE_LIMIT) {
-        Ok(bytes) => image(alloc, bytes.as_slice(), word, coordinates),
-        Err(error) => Err(refusal_of(error)),
-    }
+    let bytes = read_all(alloc, shelf, file, SURFACE_LIMIT)?;
+    image(alloc, bytes.as_slice(), word, coordinates)
 }
 
 /// What the command that the words fit prints.

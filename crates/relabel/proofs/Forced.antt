@@ -7,7 +7,7 @@
 -- label with a known image has one, and so has its inverse; in a connected triangulation that is all labels
 -- (`Connected`). So each relabelling that takes x to y has the images of the table: the list is the one such
 -- relabelling where it passes the tests, and there is none where it is refused.
-use Rattle.std.proofs.Common.{ℕ, ℤ, pos, negsuc, Bool, true, false, not, List, [], ◌≡◌, ◌≢◌, ◌≤◌, ◌<◌, ◌⊎◌, inl, inr}
+use Rattle.std.proofs.Common.{ℕ, ℤ, pos, negsuc, Bool, true, false, not, List, ◌≡◌, ◌≢◌, ◌≤◌, ◌<◌, ◌⊎◌, inl, inr}
 use Rattle.std.proofs.Common.{sym, ◌∙◌, ap, ap₂, subst, arith, length, take, set, get_or, replicate, count_by, cond}
 use Rattle.std.proofs.Common.{true≢false}
 use Rattle.std.proofs.lemmas.Bool.{cases_eq, cases_lt}
@@ -22,10 +22,6 @@ use Rattle.ideal_tri.specs.SurfaceLaws.{SurfaceLaws}
 use Rattle.ideal_tri.specs.BijectionLaws.{BijectionLaws}
 use Rattle.ideal_tri.specs.RelabellingLaws.{RelabellingLaws}
 use Rattle.relabel.specs.Relabellings.{IsTheOne, NoneTakes}
-use Rattle.relabel.specs.Refusals.{IsRefusedFor}
-use Rattle.relabel.specs.declared.relabelling.RelabelError.{RelabelError}
-use Rattle.relabel.specs.declared.relabelling.RelabelError.TheVariants.{WrongLength, NotLabel, NotBijective}
-use Rattle.relabel.specs.declared.relabelling.RelabelError.TheVariants.{BreaksTriangle}
 use Rattle.relabel.specs.inside.Forced.{IsKnown, IsOpen, IsClosed, IsForcedList}
 use Rattle.relabel.proofs.Connected.{holds_of_all}
 
@@ -263,18 +259,7 @@ the_one from to x y images list n forced takes label is_n room r is =
       only = same_as_forced from to x y images n forced is_n room;
     }
 
--- what is refused is no relabelling
-refused_none : BijectionLaws → RelabellingLaws → (from to : List (List ℤ)) (list : List ℤ) (e : RelabelError)
-    → IsRefusedFor from to list e → ¬ IsRelabelling from to list
-refused_none bijections relabellings from to list (WrongLength n) h r = h.0 r.one_per_edge
-refused_none bijections relabellings from to list (NotLabel i) h r = h.1.outside (r.labels i (pos 0) h.1.within)
-refused_none bijections relabellings from to list (NotBijective e) h r =
-    omega (arith, h.2.twice, bijections.once list (relabellings.bijection from to list r) e)
-refused_none bijections relabellings from to list (BreaksTriangle t) h r = h.3.broken (r.triangles t [] h.3.within)
-
-pub none_such : BijectionLaws → RelabellingLaws
-    → (from to : List (List ℤ)) (x y : ℤ) (images : List ℤ) (n : ℕ) (e : RelabelError) → IsForcedList from to x y images
-    → n ≡ edge_count from → n ≤ length images → IsRefusedFor from to (take n images) e → NoneTakes from to x y
-none_such bijections relabellings from to x y images n e forced is_n room refused others r takes =
-    refused_none bijections relabellings from to (take n images) e refused
-    (subst (IsRelabelling from to) (same_as_forced from to x y images n forced is_n room others r takes) r)
+pub none_such : (from to : List (List ℤ)) (x y : ℤ) (images : List ℤ) (n : ℕ) → IsForcedList from to x y images
+    → n ≡ edge_count from → n ≤ length images → ¬ IsRelabelling from to (take n images) → NoneTakes from to x y
+none_such from to x y images n forced is_n room refused others r takes =
+    refused (subst (IsRelabelling from to) (same_as_forced from to x y images n forced is_n room others r takes) r)

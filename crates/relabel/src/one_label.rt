@@ -22,8 +22,6 @@ impl Relabelling {
         ensures some { IfSome result (IsTheOne from.now to.now x y) }
         ensures none { IfNone result (NoneTakes from.now to.now x y) }
     {
-        bijection_laws();
-        relabelling_laws();
         let edges = to.edges() as usize;
         let images = forced_images(from, to, x, y);
         Relabelling::from_list(from, to, &images[..edges]).ok()

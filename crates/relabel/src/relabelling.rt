@@ -72,8 +72,10 @@ impl Relabelling {
         ensures accepted { IfOk result (λ r. IsRelabelling from.now to.now list.now
             × (r ≡ list.now)) }
         ensures refused { IfErr result (IsRefusedFor from.now to.now list.now) }
+        ensures exact { IfErr result (λ _. ¬ IsRelabelling from.now to.now list.now) }
     {
         hit_laws();
+        bijection_laws();
         relabelling_laws();
         let edges = from.edges();
         if list.len() != edges as usize {

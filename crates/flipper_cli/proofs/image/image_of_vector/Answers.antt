@@ -1,12 +1,13 @@
 use Rattle.std.proofs.Common.{rules}
 use Rattle.ideal_tri.specs.Vectors.{IsMulticurve}
-use Rattle.flipper_cli.specs.Coordinates.{IsMoved}
-use Rattle.flipper_cli.specs.KeptSurface.{surface_of}
+use Rattle.flipper_cli.specs.Vectors.{IsMoved}
+use Rattle.flipper_cli.specs.inside.KeptSurface.{surface_of}
 use Rattle.flipper_cli.proofs.Counted.{counted}
 use Rattle.flipper_cli.proofs.image.image_of_vector.Goals as goal
 
 pub moved-requires-clause-bijection : goal.moved-requires-clause-bijection
-moved-requires-clause-bijection c = c.relabelling_laws.ensures.bijection _ _ _ c.requires.relabels
+moved-requires-clause-bijection c =
+    c.relabelling_laws.ensures.bijection c.args.surface.now.tri c.args.surface.now.tri _ c.requires.relabels
 
 pub returns-clause-printed : goal.returns-clause-printed
 returns-clause-printed c =

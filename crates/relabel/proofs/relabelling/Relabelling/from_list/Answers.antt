@@ -1,4 +1,4 @@
-use Rattle.std.proofs.Common.{ℤ, List, arith, subst, All}
+use Rattle.std.proofs.Common.{ℤ, List, [], arith, sym, subst, get_or, All}
 use Rattle.ideal_tri.specs.Relabellings.{IsBijection, IsCarried}
 use Rattle.relabel.proofs.Acceptance.{bijection_from}
 use Rattle.relabel.proofs.relabelling.Relabelling.from_list.Goals as goal
@@ -20,3 +20,22 @@ returns-clause-accepted c =
           (omega arith) c.requires.same carried,
       c.from_images-relabelling.ensures,
     )
+
+pub returns-in-Some-least_hit_twice-clause-exact : goal.returns-in-Some-least_hit_twice-clause-exact
+returns-in-Some-least_hit_twice-clause-exact c = λ r.
+    omega (
+      arith,
+      c.in-Some-least_hit_twice.ensures.some.twice,
+      c.bijection_laws.ensures.once c.args.list.now
+          (c.relabelling_laws.ensures.bijection c.args.from.now c.args.to.now c.args.list.now r)
+          c.in-Some-least_hit_twice.edge,
+    )
+
+pub returns-in-Some-least_broken-clause-exact : goal.returns-in-Some-least_broken-clause-exact
+returns-in-Some-least_broken-clause-exact c = λ r.
+    let t = c.in-Some-least_broken.triangle in
+    let broken = c.in-Some-least_broken.ensures.some in
+    broken.broken
+    (subst (λ (xs : List ℤ). IsCarried c.args.to.now xs (get_or c.args.from.now t []))
+    (sym c.from_images-relabelling.ensures)
+    (r.triangles t [] broken.within))

@@ -3,7 +3,6 @@ use Rattle.std.specs.Result.{result_ok}
 use Rattle.relabel.specs.declared.relabelling.RelabelError.{RelabelError}
 use Rattle.ideal_tri.specs.Relabellings.{IsRelabelling}
 use Rattle.relabel.specs.Relabellings.{IsTheOne, NoneTakes}
-use Rattle.relabel.specs.Refusals.{IsRefusedFor}
 use Rattle.relabel.proofs.Forced.{the_one, none_such}
 use Rattle.relabel.proofs.relabelling.Relabelling.from_one.Goals as goal
 
@@ -12,11 +11,9 @@ some_of_ok : (r : Result (List ℤ) RelabelError) (P Q : List ℤ → Type 0) �
 some_of_ok (Ok t) P Q f h = f t h
 some_of_ok (Err e) P Q f h = tt
 
-none_of_err : (r : Result (List ℤ) RelabelError) (P : RelabelError → Type 0) (N : Type 0)
-    → ((e : RelabelError) → P e → N) → IfErr r P
-    → IfNone (result_ok r) N
+none_of_err : (r : Result (List ℤ) RelabelError) (P N : Type 0) → (P → N) → IfErr r (λ _. P) → IfNone (result_ok r) N
 none_of_err (Ok t) P N f h = tt
-none_of_err (Err e) P N f h = f e h
+none_of_err (Err e) P N f h = f h
 
 pub returns-clause-some : goal.returns-clause-some
 returns-clause-some c =
@@ -35,10 +32,8 @@ pub returns-clause-none : goal.returns-clause-none
 returns-clause-none c =
     let list = take c.edges-edges.result c.forced_images-images.result in
     subst (λ o. IfNone o (NoneTakes c.args.from.now c.args.to.now c.args.x c.args.y)) (sym c.ok.ensures.value)
-    (none_of_err c.from_list.result (IsRefusedFor c.args.from.now c.args.to.now list)
+    (none_of_err c.from_list.result (¬ IsRelabelling c.args.from.now c.args.to.now list)
     (NoneTakes c.args.from.now c.args.to.now c.args.x c.args.y)
-    (λ e h.
-    none_such c.bijection_laws.ensures c.relabelling_laws.ensures c.args.from.now c.args.to.now c.args.x c.args.y
-    c.forced_images-images.result c.edges-edges.result e
-    c.forced_images-images.ensures.forced (c.edges-edges.ensures.count ∙ sym c.requires.same) (omega arith) h)
-    c.from_list.ensures.refused)
+    (none_such c.args.from.now c.args.to.now c.args.x c.args.y c.forced_images-images.result c.edges-edges.result
+    c.forced_images-images.ensures.forced (c.edges-edges.ensures.count ∙ sym c.requires.same) (omega arith))
+    c.from_list.ensures.exact)

@@ -1,5 +1,5 @@
--- What the program keeps of a surface file, as a surface, and what it finds in the JSON tree.
-use Rattle.std.specs.Prelude.{◌≡◌, ℤ, List, map, Option, Some, None, String, string_bytes}
+-- What the program keeps of a surface file, as a surface.
+use Rattle.std.specs.Prelude.{ℤ, List, map, String, string_bytes}
 use Rattle.std.specs.declared.alloc.Global.{Global}
 use Rattle.flipper_cli.specs.Surfaces.{Generator, Surface}
 use Rattle.flipper_cli.specs.declared.surface.Surface.{Surface as Kept}
@@ -13,8 +13,3 @@ generators_of entries = map (λ e. generator_of e.0 e.1) entries
 
 abbrev pub surface_of : Kept → Surface
 surface_of s = record { triangles = s.tri; generators = generators_of s.generators.entries }
-
--- what a tree tells, if it tells something and that is sound
-abbrev pub IsFound : {X : Type 0} → Option X → (X → Type 0) → Option X → Type 0
-IsFound {X} told IsGood None = (x : X) → told ≡ Some x → IsGood x → ⊥
-IsFound told IsGood (Some x) = (told ≡ Some x) × IsGood x

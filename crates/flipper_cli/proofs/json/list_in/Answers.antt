@@ -1,9 +1,9 @@
 use Rattle.std.proofs.Common.{Some, map, ap, sym, ◌∙◌}
 use Rattle.std.specs.Option.{option_map}
 use Rattle.serde_json.specs.View.{view}
-use Rattle.flipper_cli.specs.Surfaces.{entries_of}
+use Rattle.flipper_cli.specs.Json.{entries_of}
 use Rattle.flipper_cli.proofs.Entries.{entries_of-items_of}
-use Rattle.flipper_cli.proofs.tree.list_in.Goals as goal
+use Rattle.flipper_cli.proofs.json.list_in.Goals as goal
 
 pub returns : goal.returns
 returns c =

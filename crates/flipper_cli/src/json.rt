@@ -3,7 +3,7 @@ ghost use Rattle.std.specs.Prelude.{◌≡◌, map, IfOk, option_and_then};
 ghost use Rattle.std.specs.Option.{option_map};
 ghost use Rattle.serde_json.specs.Find.{get, as_str};
 ghost use Rattle.serde_json.specs.View.{view};
-ghost use Rattle.flipper_cli.specs.Surfaces.{list_in, whole_in, numbers_in, triple_in, triangles_in};
+ghost use Rattle.flipper_cli.specs.Json.{list_in, whole_in, numbers_in, triple_in, triangles_in};
 
 use ideal_tri::Memory;
 use serde_json::Value;
@@ -68,7 +68,8 @@ pub(crate) fn triple_in(value: &Value) -> Option<[i32; 3]>
 
 /// The triples of whole numbers that an object has as its triangles.
 pub(crate) fn triangles_in(alloc: Global, value: &Value) -> Result<Option<Vec<[i32; 3]>>, Memory>
-    ensures { IfOk result (λ found. option_map (λ v. v.items) found ≡ triangles_in (view value.now)) }
+    ensures { IfOk result (λ found.
+        option_map (λ v. v.items) found ≡ triangles_in (view value.now)) }
 {
     let Some(list) = list_at(value, "triangles") else {
         return Ok(None);

@@ -1,8 +1,9 @@
-//! What the program answers.
+//! What the program answers: its status, and why nothing was printed.
 ghost use Rattle.std.specs.Prelude.{◌≡◌};
 ghost use Rattle.flipper_cli.specs.Answers.{status_of, line_for, number_of};
 
-use flip_io::ShelfFault;
+use crate::surface::SurfaceRefusal;
+use flip_io::{ReadError, ShelfFault};
 use ideal_tri::Memory;
 
 /// How a run ends.
@@ -38,23 +39,33 @@ impl Status {
     }
 }
 
-/// Why nothing is printed on the output, in the order of the tests; a failed read and want of memory may come between.
+/// Why nothing is printed on the output, in the order of the tests; a failed read and want of
+/// memory may come between.
 #[derive(Clone, Copy, Debug, PartialEq, Eq)]
 pub enum Refusal {
+    /// The words of the command line fit no command.
     Usage,
+    /// There is no surface file of this name.
     Absent,
+    /// A read of the surface file failed.
     Failed,
+    /// A generator of the surface file is a twist or has flips: these are not built yet.
     SurfaceNotBuilt,
+    /// The file is too long, or holds no surface.
     SurfaceRefused,
+    /// The word is not the name of one generator: other words are not built yet.
     WordNotBuilt,
+    /// The surface has no generator of this name.
     WordRefused,
+    /// The coordinates are not those of a multicurve.
     CoordinatesRefused,
+    /// No memory was found.
     Memory,
 }
 
 impl From<Memory> for Refusal {
     ghost use Rattle.std.specs.Prelude.{◌≡◌};
-    ghost use Rattle.flipper_cli.specs.declared.report.Refusal.TheVariants.{Memory};
+    ghost use Rattle.flipper_cli.specs.declared.answers.Refusal.TheVariants.{Memory};
 
     ghost from_gives = { λ _ refusal. refusal ≡ Memory };
 
@@ -63,7 +74,40 @@ impl From<Memory> for Refusal {
     }
 }
 
+impl From<ReadError> for Refusal {
+    ghost use Rattle.std.specs.Prelude.{◌≡◌};
+    ghost use Rattle.flipper_cli.specs.inside.Refusals.{for_read};
+
+    ghost from_gives = { λ error refusal. refusal ≡ for_read error };
+
+    fn from(error: ReadError) -> Refusal {
+        match error {
+            ReadError::Absent => Refusal::Absent,
+            ReadError::Failed => Refusal::Failed,
+            ReadError::TooLong => Refusal::SurfaceRefused,
+            ReadError::Memory => Refusal::Memory,
+        }
+    }
+}
+
+impl From<SurfaceRefusal> for Refusal {
+    ghost use Rattle.std.specs.Prelude.{◌≡◌};
+    ghost use Rattle.flipper_cli.specs.inside.Refusals.{for_surface};
+
+    ghost from_gives = { λ error refusal. refusal ≡ for_surface error };
+
+    fn from(error: SurfaceRefusal) -> Refusal {
+        match error {
+            SurfaceRefusal::NotBuilt => Refusal::SurfaceNotBuilt,
+            SurfaceRefusal::NotSurface | SurfaceRefusal::Triangles(_) | SurfaceRefusal::Images(_) =>
+                Refusal::SurfaceRefused,
+            SurfaceRefusal::Memory => Refusal::Memory,
+        }
+    }
+}
+
 impl Refusal {
+    /// The status that goes with it.
     pub(crate) fn status(self) -> Status
         ensures { result ≡ status_of self }
     {

@@ -2,7 +2,7 @@ use Rattle.std.proofs.Common.{map, arith, length, ◌≢◌}
 use Rattle.std.proofs.lemmas.List.{length-map}
 use Rattle.serde_json.specs.View.{view}
 use Rattle.flipper_cli.proofs.Entries.{no_triple}
-use Rattle.flipper_cli.proofs.tree.triple_in.Goals as goal
+use Rattle.flipper_cli.proofs.json.triple_in.Goals as goal
 
 pub returns-in_default : goal.returns-in_default
 returns-in_default c =
