@@ -9,6 +9,8 @@ pub mod Fields
 pub mod Multicurves
 pub mod Moves
 pub mod Counted
+-- worked drawings
+pub mod Drawn
 -- the line that is printed
 pub mod Lines
 -- a file, and a whole run

@@ -11,5 +11,7 @@ pub mod Line
 pub mod Names
 pub mod Surfaces
 pub mod Vectors
+-- worked drawings
+pub mod WorkedDrawings
 -- what serves the code alone
 pub mod inside

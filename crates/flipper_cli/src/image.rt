@@ -1,11 +1,12 @@
 //! From the surface file, the word and the coordinates to what is printed.
-ghost use Rattle.std.specs.Prelude.{◌≡◌, ◌⊎◌, ◌≤◌, ℤ, List, length, Some, Err, IfOk, IfErr};
+ghost use Rattle.std.specs.Prelude.{◌≡◌, ◌⊎◌, ◌≤◌, List, [], ◌∷◌, length, Some, Err, IfOk, IfErr};
 ghost use Rattle.ideal_tri.specs.Relabellings.{IsRelabelling};
+ghost use Rattle.tri_atlas.specs.Moves.{Move, relabel};
 ghost use Rattle.flipper_cli.specs.Answers.{status_of};
 ghost use Rattle.flipper_cli.specs.Headline.{IsImage, IsImageLine};
 ghost use Rattle.flipper_cli.specs.Limits.{surface_limit};
 ghost use Rattle.flipper_cli.specs.Report.{IsFileReport, IsSurfaceReport, IsVectorReport};
-ghost use Rattle.flipper_cli.specs.Report.{images_of};
+ghost use Rattle.flipper_cli.specs.Report.{path_of};
 ghost use Rattle.flipper_cli.specs.Run.{shown};
 ghost use Rattle.flipper_cli.specs.Surfaces.{IsSound};
 ghost use Rattle.flipper_cli.specs.Vectors.{coordinates_in};
@@ -29,10 +30,10 @@ fn image_of_vector(
 ) -> Result<Vec<u8>, Refusal>
     requires sound { IsSound (surface_of surface.now) }
     requires relabels { IsRelabelling surface.now.tri surface.now.tri relabelling.now }
-    ensures report { IsVectorReport (surface_of surface.now) relabelling.now
+    ensures report { IsVectorReport (surface_of surface.now) (relabel relabelling.now ∷ [])
         (coordinates_in coordinates.now) (shown result) ⊎ (result ≡ Err Refusal.Memory) }
-    ensures printed { IfOk result (λ bytes.
-        IsImageLine (surface_of surface.now) relabelling.now coordinates.now bytes.items) }
+    ensures printed { IfOk result (λ bytes. IsImageLine (surface_of surface.now)
+        (relabel relabelling.now ∷ []) coordinates.now bytes.items) }
     ensures refused { IfErr result (λ r.
         (status_of r ≡ Status.InputRefused) ⊎ (r ≡ Refusal.Memory)) }
 {
@@ -57,9 +58,9 @@ fn image_of_word(
     requires { IsSound (surface_of surface.now) }
     ensures report { IsSurfaceReport (surface_of surface.now) word.now coordinates.now
         (shown result) ⊎ (result ≡ Err Refusal.Memory) }
-    ensures printed { IfOk result (λ bytes. (images : List ℤ)
-        × (images_of word.now (surface_of surface.now).generators ≡ Some images)
-        × IsImageLine (surface_of surface.now) images coordinates.now bytes.items) }
+    ensures printed { IfOk result (λ bytes. (path : List Move)
+        × (path_of word.now (surface_of surface.now).generators ≡ Some path)
+        × IsImageLine (surface_of surface.now) path coordinates.now bytes.items) }
     ensures refused { IfErr result (λ r.
         (status_of r ≡ Status.InputRefused) ⊎ (r ≡ Refusal.Memory)) }
 {

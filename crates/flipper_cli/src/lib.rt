@@ -4,7 +4,7 @@
 //! order: `Command` (what the words ask for), `Surfaces` and `Vectors` (what a surface file and a
 //! vector are), `Report` (which status and which bytes a call answers), `Headline` (what the
 //! printed vector means) and `Run` (the causes of all other answers, which files are read, and what
-//! the sinks took).
+//! the sinks took). `WorkedDrawings` shows at three vectors what the headline speaks of.
 //!
 //! ```text
 //! let words = ["image", "sphere3.json", "r", "2,1,1"];
@@ -19,6 +19,7 @@
 
 mod answers;
 mod command;
+mod drawings;
 mod image;
 mod json;
 mod line;
@@ -29,6 +30,7 @@ mod vector;
 mod work;
 
 pub use answers::{Refusal, Status};
+pub use drawings::worked_drawings;
 pub use program::run;
 
 #[cfg(test)]

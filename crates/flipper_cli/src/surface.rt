@@ -1,5 +1,6 @@
 //! Reading a surface file.
-ghost use Rattle.std.specs.Prelude.{◌≡◌, ◌≤◌, ℤ, List, codes, length, pos, option_and_then};
+ghost use Rattle.std.specs.Prelude.{◌≡◌, ◌≤◌, ℤ, List, [], ◌∷◌, codes, length, pos};
+ghost use Rattle.std.specs.Prelude.{option_and_then};
 ghost use Rattle.std.specs.Prelude.{false, Some, IfOk, IfErr, IsErrOf, All};
 ghost use Rattle.std.specs.Option.{option_map, option_map_or};
 ghost use Rattle.std.specs.Ordering.{int_eq};
@@ -13,10 +14,11 @@ ghost use Rattle.ideal_tri.specs.Triangulations.{IsTriangulation, IsConnected};
 ghost use Rattle.ideal_tri.specs.declared.tri.TriError.{TriError};
 ghost use Rattle.relabel.specs.Refusals.{IsRefusedFor as IsRefusedAsRelabelling};
 ghost use Rattle.relabel.specs.declared.relabelling.RelabelError.{RelabelError};
+ghost use Rattle.tri_atlas.specs.Moves.{relabel};
 ghost use Rattle.flipper_cli.specs.Json.{list_in, triangles_in, whole_in};
 ghost use Rattle.flipper_cli.specs.Limits.{surface_limit};
 ghost use Rattle.flipper_cli.specs.Names.{is_surface_name};
-ghost use Rattle.flipper_cli.specs.Report.{images_of, IsSurface};
+ghost use Rattle.flipper_cli.specs.Report.{images_of, path_of, IsSurface};
 ghost use Rattle.flipper_cli.specs.Surfaces.{Generator, IsSound, generator_in, generators_in};
 ghost use Rattle.flipper_cli.specs.Surfaces.{has_heading, is_flipping, is_unbuilt};
 ghost use Rattle.flipper_cli.specs.Surfaces.{is_unbuilt_generator, surface_in};
@@ -43,9 +45,11 @@ pub(crate) struct Surface {
 }
 
 impl Surface {
-    /// The generator of this name.
+    /// The generator of this name, which is also the path of the word with this name alone.
     pub(crate) fn generator(&self, name: &str) -> Option<Relabelling>
-        ensures { result ≡ images_of name.now (surface_of self.now).generators }
+        ensures found { result ≡ images_of name.now (surface_of self.now).generators }
+        ensures path { option_map (λ images. relabel images ∷ []) result
+            ≡ path_of name.now (surface_of self.now).generators }
     {
         self.generators.get(name).copied()
     }

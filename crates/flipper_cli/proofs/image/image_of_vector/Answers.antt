@@ -1,8 +1,7 @@
-use Rattle.std.proofs.Common.{rules}
+use Rattle.std.proofs.Common.{refl, rules}
 use Rattle.ideal_tri.specs.Vectors.{IsMulticurve}
 use Rattle.flipper_cli.specs.Vectors.{IsMoved}
-use Rattle.flipper_cli.specs.inside.KeptSurface.{surface_of}
-use Rattle.flipper_cli.proofs.Counted.{counted}
+use Rattle.flipper_cli.proofs.Counted.{is_image}
 use Rattle.flipper_cli.proofs.image.image_of_vector.Goals as goal
 
 pub moved-requires-clause-bijection : goal.moved-requires-clause-bijection
@@ -17,8 +16,8 @@ returns-clause-printed c =
       multicurve = c.in-Some.multicurve.items;
       vector = c.in_ok-vector.vector.items;
       of_coordinates = search rules;
-      is_multicurve = good;
-      is_counted = counted c.relabelling_laws.ensures (surface_of c.args.surface.now) _ _ _
+      is_image = is_image c.relabelling_laws.ensures c.args.surface.now.tri _ _ _
           c.requires.sound.triangulation c.requires.relabels good moved;
+      is_followed = (_, moved, refl);
       is_printed = search rules;
     }
