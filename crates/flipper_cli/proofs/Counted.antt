@@ -1,5 +1,5 @@
 -- The moved vector is the image of the multicurve under the map of one relabelling.
-use Rattle.std.proofs.Common.{◌≡◌, ◌<◌, ℕ, ℤ, List, [], ◌∷◌, length, map, slice_index, refl, sym, ◌∙◌, ap, subst}
+use Rattle.std.proofs.Common.{◌≡◌, ◌<◌, ℕ, ℤ, List, [], ◌∷◌, length, map, slice_index, Option, Some, inl, refl, sym, ◌∙◌, ap, subst}
 use Rattle.std.specs.List.{flat_map}
 use Rattle.ideal_tri.specs.Curves.{crossings}
 use Rattle.ideal_tri.specs.Relabellings.{IsRelabelling, image_of, reduced_images}
@@ -9,8 +9,12 @@ use Rattle.ideal_tri.specs.Triangulations.{IsTriangulation}
 use Rattle.ideal_tri.specs.Vectors.{IsMulticurve}
 use Rattle.ideal_tri.specs.Words.{cyclic_reduce}
 use Rattle.tri_atlas.specs.Maps.{IsImageVector, images_under, path_map}
-use Rattle.tri_atlas.specs.Moves.{relabel}
-use Rattle.flipper_cli.specs.Vectors.{IsMoved}
+use Rattle.tri_atlas.specs.Moves.{Move, relabel}
+use Rattle.flipper_cli.specs.Answers.{printed}
+use Rattle.flipper_cli.specs.Line.{line_of}
+use Rattle.flipper_cli.specs.Report.{IsVectorReport}
+use Rattle.flipper_cli.specs.Surfaces.{Surface}
+use Rattle.flipper_cli.specs.inside.Moved.{IsMoved}
 
 -- ---- the map of one relabelling goes letter by letter
 
@@ -41,3 +45,11 @@ is_image laws triples images w v triangulation relabelling multicurve moved = re
       subst Counts onto (moved.moved d inside ∙ sym count)
       ∙ ap (crossings e) (sym (images_under-relabel images (words_of runs)));
 }
+
+-- ---- what is reported
+
+pub image_reported : (s : Surface) (moves : List Move) (read : Option (List ℕ)) (w v bytes : List ℕ) → read ≡ Some w
+    → IsImageVector s.triangles w (path_map moves) v → bytes ≡ line_of v → IsVectorReport s moves read (printed bytes)
+image_reported s moves read w v bytes is image line =
+    let P : Option (List ℕ) → Type 0 = λ o. IsVectorReport s moves o (printed bytes) in
+    subst P (sym is) (inl (v, image, ap printed line))

@@ -1,8 +1,7 @@
 -- The report of a call: which status, which bytes for the output and which for the error stream,
 -- for its words over the files of the shelf.
-use Rattle.std.specs.Prelude.{[], ◌∷◌, ◌≡◌, ◌⊎◌, ◌≤◌, length, ℕ, ℤ, List, Option, Some, None}
-use Rattle.std.specs.Prelude.{IsUtf8, true}
-use Rattle.std.specs.Prelude.{[], ◌∷◌, false}
+use Rattle.std.specs.Prelude.{◌≡◌, ◌⊎◌, ◌≤◌, ℕ, ℤ, List, [], ◌∷◌, length, Option, Some, None}
+use Rattle.std.specs.Prelude.{true, false, IsUtf8}
 use Rattle.std.specs.List.{find}
 use Rattle.std.specs.Option.{option_map}
 use Rattle.std.specs.Str.{bytes_eq}
@@ -10,6 +9,7 @@ use Rattle.serde_json.specs.Data.{Data}
 use Rattle.serde_json.specs.Read.{read}
 use Rattle.flip_io.specs.Files.{Files}
 use Rattle.ideal_tri.specs.Vectors.{IsMulticurve}
+use Rattle.tri_atlas.specs.Maps.{IsImageVector, path_map}
 use Rattle.tri_atlas.specs.Moves.{Move, relabel}
 use Rattle.flipper_cli.specs.Answers.{Report, printed, refused}
 use Rattle.flipper_cli.specs.Command.{Command, image}
@@ -17,7 +17,7 @@ use Rattle.flipper_cli.specs.Limits.{surface_limit}
 use Rattle.flipper_cli.specs.Line.{line_of}
 use Rattle.flipper_cli.specs.Names.{is_generator_name}
 use Rattle.flipper_cli.specs.Surfaces.{Surface, Generator, surface_in, is_unbuilt, IsSound}
-use Rattle.flipper_cli.specs.Vectors.{coordinates_in, IsFollowed}
+use Rattle.flipper_cli.specs.Vectors.{coordinates_in}
 use Rattle.flipper_cli.specs.declared.answers.Refusal.TheVariants.{Usage, Absent, SurfaceNotBuilt}
 use Rattle.flipper_cli.specs.declared.answers.Refusal.TheVariants.{SurfaceRefused, WordNotBuilt}
 use Rattle.flipper_cli.specs.declared.answers.Refusal.TheVariants.{WordRefused, CoordinatesRefused}
@@ -62,12 +62,12 @@ path_of word generators = option_map (λ images. relabel images ∷ []) (images_
 
 -- ---- the report of `image`, from the last step back
 
--- the numbers are a multicurve, whose image is printed; or they are refused
+-- the numbers are a multicurve, whose image under the map of the moves is printed; or they are
+-- refused
 abbrev pub IsVectorReport : Surface → List Move → Option (List ℕ) → Report → Type 0
 IsVectorReport s moves None r = r ≡ refused CoordinatesRefused
 IsVectorReport s moves (Some w) r =
-    (IsMulticurve s.triangles w
-    × ((v : List ℕ) × IsFollowed moves w v × (r ≡ printed (line_of v))))
+    ((v : List ℕ) × IsImageVector s.triangles w (path_map moves) v × (r ≡ printed (line_of v)))
     ⊎ ((¬ IsMulticurve s.triangles w) × (r ≡ refused CoordinatesRefused))
 
 abbrev pub IsWordReport : Surface → Option (List Move) → List ℕ → Report → Type 0

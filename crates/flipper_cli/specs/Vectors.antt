@@ -1,17 +1,11 @@
--- Vectors on the command line, and the vector that a path gives.
-use Rattle.std.specs.Prelude.{◌≡◌, ◌<◌, ◌&&◌, ◌==◌, ℕ, ℤ, pos, Bool, List, [], ◌∷◌, length}
-use Rattle.std.specs.Prelude.{slice_index, Option, Some, None, option_and_then, nat_le, nat_lt}
-use Rattle.std.specs.Prelude.{if◌then◌else◌}
+-- Vectors on the command line.
+use Rattle.std.specs.Prelude.{◌&&◌, ◌==◌, ℕ, Bool, List, [], ◌∷◌, length, Option, Some, None}
+use Rattle.std.specs.Prelude.{option_and_then, nat_le, nat_lt, if◌then◌else◌}
 use Rattle.std.specs.List.{slice_split}
 use Rattle.std.specs.Option.{option_map}
 use Rattle.std.specs.Str.{all_ascii_digits}
 use Rattle.std.specs.Str.Parse.{digits_value}
-use Rattle.ideal_tri.specs.Labels.{edge_of}
-use Rattle.ideal_tri.specs.Relabellings.{image_of}
-use Rattle.tri_atlas.specs.Moves.{Move, relabel}
 use Rattle.flipper_cli.specs.Limits.{coordinate_end, digit_limit}
-
--- ---- what is read
 
 -- the value of these digits, if it isn't too large
 abbrev pub coordinate_of_digits : List ℕ → Option ℕ
@@ -37,18 +31,3 @@ all_coordinates (field ∷ fields) =
 -- the numbers of a text in which commas stand between them
 abbrev pub coordinates_in : List ℕ → Option (List ℕ)
 coordinates_in text = all_coordinates (slice_split (λ c. c == 44) text)
-
--- ---- along a path
-
--- v is w, moved along: the number of an edge stands at the edge of its image
-pub record IsMoved (images : List ℤ) (w v : List ℕ) : Type 0 where
-  pub as_long : length v ≡ length w
-  pub moved : (e : ℕ) → e < length w
-      → slice_index v (edge_of (image_of images (pos e))) ≡ slice_index w e
-
--- v is what the moves of a path make of w, one after another. No rule for flips is built yet
-abbrev pub IsFollowed : List Move → List ℕ → List ℕ → Type 0
-IsFollowed [] w v = v ≡ w
-IsFollowed (relabel images ∷ moves) w v =
-    (u : List ℕ) × IsMoved images w u × IsFollowed moves u v
-IsFollowed (_ ∷ moves) w v = ⊥

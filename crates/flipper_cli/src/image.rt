@@ -1,6 +1,10 @@
 //! From the surface file, the word and the coordinates to what is printed.
 ghost use Rattle.std.specs.Prelude.{◌≡◌, ◌⊎◌, ◌≤◌, List, [], ◌∷◌, length, Some, Err, IfOk, IfErr};
+ghost use Rattle.ideal_tri.specs.Drawings.{draw};
 ghost use Rattle.ideal_tri.specs.Relabellings.{IsRelabelling};
+ghost use Rattle.ideal_tri.specs.Strands.{IsDrawing};
+ghost use Rattle.ideal_tri.specs.Triangulations.{IsTriangulation};
+ghost use Rattle.ideal_tri.specs.Vectors.{IsMulticurve};
 ghost use Rattle.tri_atlas.specs.Moves.{Move, relabel};
 ghost use Rattle.flipper_cli.specs.Answers.{status_of};
 ghost use Rattle.flipper_cli.specs.Headline.{IsImage, IsImageLine};
@@ -17,9 +21,18 @@ use crate::line::line_of;
 use crate::names::is_generator_name;
 use crate::surface::{Surface, read_surface};
 use crate::vector::{coordinates_in, is_multicurve, moved};
-use ideal_tri::relabelling_laws;
+use ideal_tri::{Tri, drawing_laws, relabelling_laws};
 use relabel::Relabelling;
 use std::alloc::Global;
+
+/// A multicurve has a drawing. It does nothing: the caller learns it.
+fn is_drawn(tri: &Tri, multicurve: &[u128])
+    requires triangulation { IsTriangulation tri.now }
+    requires multicurve { IsMulticurve tri.now multicurve.now }
+    ensures { IsDrawing tri.now multicurve.now (draw tri.now multicurve.now) }
+{
+    drawing_laws();
+}
 
 /// The line of the image of a multicurve under a relabelling of the surface.
 fn image_of_vector(
@@ -44,6 +57,7 @@ fn image_of_vector(
     if !is_multicurve(&surface.tri, &multicurve) {
         return Err(Refusal::CoordinatesRefused);
     }
+    is_drawn(&surface.tri, &multicurve);
     let vector = moved(alloc, relabelling, &multicurve)?;
     Ok(line_of(alloc, &vector)?)
 }

@@ -7,7 +7,8 @@ ghost use Rattle.ideal_tri.specs.Labels.{edge_of};
 ghost use Rattle.ideal_tri.specs.Relabellings.{IsBijection};
 ghost use Rattle.ideal_tri.specs.Vectors.{weight, IsEven, HasNoLongSide, IsMulticurve};
 ghost use Rattle.flipper_cli.specs.Limits.{coordinate_end, digit_limit};
-ghost use Rattle.flipper_cli.specs.Vectors.{IsMoved, coordinate_in, coordinate_of_digits};
+ghost use Rattle.flipper_cli.specs.inside.Moved.{IsMoved};
+ghost use Rattle.flipper_cli.specs.Vectors.{coordinate_in, coordinate_of_digits};
 ghost use Rattle.flipper_cli.specs.Vectors.{coordinates_in, is_numeral};
 
 use crate::names::is_digit;
