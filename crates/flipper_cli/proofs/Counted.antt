@@ -1,5 +1,6 @@
 -- The moved vector is the image of the multicurve under the map of one relabelling.
-use Rattle.std.proofs.Common.{◌≡◌, ◌<◌, ℕ, ℤ, List, [], ◌∷◌, length, map, slice_index, Option, Some, inl, refl, sym, ◌∙◌, ap, subst}
+use Rattle.std.proofs.Common.{◌≡◌, ◌<◌, ℕ, ℤ, List, [], ◌∷◌, length, map, slice_index, Option, Some, inl, refl, sym}
+use Rattle.std.proofs.Common.{◌∙◌, ap, subst}
 use Rattle.std.specs.List.{flat_map}
 use Rattle.ideal_tri.specs.Curves.{crossings}
 use Rattle.ideal_tri.specs.Relabellings.{IsRelabelling, image_of, reduced_images}

@@ -1,7 +1,8 @@
 -- The program's claim. Each vector that `image` prints is the image of the given multicurve under
 -- the map of the word's path: the multicurve is drawn by curves, and the vector counts, edge by
 -- edge, how often the images of these cross it, each taken along by the map and cyclically reduced.
--- All drawings of a multicurve have the same curves (`ideal_tri::drawing_laws`), so it is one image.
+-- All drawings of a multicurve have the same curves (`ideal_tri::drawing_laws`), so it is one
+-- image.
 use Rattle.std.specs.Prelude.{◌≡◌, ℕ, List, Option, Some, None}
 use Rattle.flip_io.specs.Files.{Files}
 use Rattle.ideal_tri.specs.Drawings.{draw}

@@ -37,6 +37,7 @@ returns-clause-report c =
     let line : bytes ≡ line_of v = search rules in
     inl (image_reported (surface_of c.args.surface.now) (relabel c.args.relabelling.now ∷ [])
     (coordinates_in c.args.coordinates.now) w v bytes read
-    (is_image c.relabelling_laws.ensures c.args.surface.now.tri c.args.relabelling.now w v c.requires.sound.triangulation
+    (is_image c.relabelling_laws.ensures c.args.surface.now.tri c.args.relabelling.now w v
+    c.requires.sound.triangulation
     c.requires.relabels good moved)
     line)
