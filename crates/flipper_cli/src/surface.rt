@@ -27,7 +27,7 @@ ghost use Rattle.flipper_cli.specs.inside.Refusals.{IsFound, IsRefusedFile, resu
 
 use crate::json::{list_at, numbers_in, text_at, triangles_in, whole_in};
 use crate::names::{is_generator_name, is_surface_name};
-use ideal_tri::{Memory, Tri, TriError, hit_laws};
+use ideal_tri::{Memory, Tri, TriError};
 use indexmap::IndexMap;
 use relabel::{RelabelError, Relabelling};
 use serde_json::Value;
@@ -245,7 +245,6 @@ fn relabelling_in(
     let Some((name, images)) = generator_in(alloc, entry)? else {
         return Err(SurfaceRefusal::NotSurface);
     };
-    hit_laws();
     let relabelling = Relabelling::from_list(tri, tri, &images)?;
     Ok((name, relabelling))
 }

@@ -2,14 +2,15 @@ pub mod Labels
 pub mod Words
 pub mod Triangulations
 pub mod Refusals
-pub mod Places
-pub mod LaidOut
 pub mod Curves
 pub mod Vectors
 pub mod Strands
 pub mod Peripheral
 pub mod LabelLaws
 pub mod WordLaws
+pub mod Drawings
+pub mod DrawingLaws
+pub mod StrandLaws
 pub mod SurfaceLaws
 pub mod Relabellings
 pub mod HitLaws
@@ -19,6 +20,9 @@ pub mod Flips
 pub mod FlipLaws
 pub mod Vertices
 pub mod VertexLaws
+pub mod PeripheralParts
+pub mod CornerLaws
 pub mod TripleLaws
 pub mod Components
 pub mod ComponentLaws
+pub mod inside

@@ -1,9 +1,12 @@
 //! Components: the classes of triangles that walks join, each named by its least triangle.
-ghost use Rattle.std.specs.Prelude.{◌≡◌, ◌<◌, ◌≤◌, ◌⊎◌, ◌↔◌, ℕ, ℤ, false, true, length, slice_index_or, IfSome, IfNone};
+ghost use Rattle.std.specs.Prelude.{◌≡◌, ◌<◌, ◌≤◌, ◌⊎◌, ◌↔◌, ℕ, ℤ, false, true, length};
+ghost use Rattle.std.specs.Prelude.{slice_index_or, IfSome, IfNone};
 ghost use Rattle.ideal_tri.specs.Labels.{inverse};
-ghost use Rattle.ideal_tri.specs.Triangulations.{triangle_of, IsLabel, IsReached, IsTriangulation, IsConnected};
+ghost use Rattle.ideal_tri.specs.Triangulations.{triangle_of, IsLabel, IsReached, IsTriangulation};
+ghost use Rattle.ideal_tri.specs.Triangulations.{IsConnected};
 ghost use Rattle.ideal_tri.specs.Refusals.{IsLeastUnreached};
-ghost use Rattle.ideal_tri.specs.Components.{least_triangle, first_triangles, component_of, component_count};
+ghost use Rattle.ideal_tri.specs.Components.{least_triangle, first_triangles, component_of};
+ghost use Rattle.ideal_tri.specs.Components.{component_count};
 
 use crate::label::Label;
 use crate::tri::{TRIANGLES, Tri};
@@ -17,7 +20,8 @@ impl Tri {
         first_triangles(self, self.triangles())
     }
 
-    /// The number of the component of triangle `t`. Components are numbered from 0, in the order of their least triangles.
+    /// The number of the component of triangle `t`. Components are numbered from 0, in the order of
+    /// their least triangles.
     pub fn component(&self, t: u32) -> u32
         requires { t < length self.now }
         ensures { result ≡ component_of self.now t }
@@ -73,10 +77,10 @@ fn least_triangle(tri: &Tri, t: u32) -> u32
 /// Which triangles can be reached from a given one.
 fn reached_from(tri: &Tri, start: u32) -> [bool; TRIANGLES]
     requires { start < length tri.now }
-    ensures room { length result ≡ 32 }
+    ensures room { length result ≡ TRIANGLES }
     ensures reached { (t : ℕ) → t < length tri.now
         → (slice_index_or result t false ≡ true) ↔ IsReached tri.now start t }
-    ensures few { length tri.now ≤ 32 }
+    ensures few { length tri.now ≤ TRIANGLES }
     ensures sound { IsTriangulation tri.now }
 {
     let count = tri.triangles();
@@ -92,8 +96,8 @@ fn reached_from(tri: &Tri, start: u32) -> [bool; TRIANGLES]
 
 /// The first of `count` triangles that is reached, but whose neighbours are not marked yet.
 fn first_open(reached: &[bool; TRIANGLES], done: &[bool; TRIANGLES], count: u32) -> Option<u32>
-    requires room { (length reached.now ≡ 32) × (length done.now ≡ 32) }
-    requires count { count ≤ 32 }
+    requires room { (length reached.now ≡ TRIANGLES) × (length done.now ≡ TRIANGLES) }
+    requires count { count ≤ TRIANGLES }
     ensures some { IfSome result (λ t. (t < count)
         × (slice_index_or reached.now t false ≡ true) × (slice_index_or done.now t false ≡ false)) }
     ensures none { IfNone result ((t : ℕ) → t < count
@@ -112,10 +116,11 @@ fn first_open(reached: &[bool; TRIANGLES], done: &[bool; TRIANGLES], count: u32)
 fn mark_neighbours(tri: &Tri, t: u32, reached: &mut [bool; TRIANGLES])
     requires sound { IsTriangulation tri.now }
     requires triangle { t < length tri.now }
-    requires few { length tri.now ≤ 32 }
-    requires room { length reached.old ≡ 32 }
-    ensures room { length reached.new ≡ 32 }
-    ensures kept { (u : ℕ) → slice_index_or reached.old u false ≡ true → slice_index_or reached.new u false ≡ true }
+    requires few { length tri.now ≤ TRIANGLES }
+    requires room { length reached.old ≡ TRIANGLES }
+    ensures room { length reached.new ≡ TRIANGLES }
+    ensures kept { (u : ℕ) → slice_index_or reached.old u false ≡ true
+        → slice_index_or reached.new u false ≡ true }
     ensures marked { (x : ℤ) → IsLabel tri.now x → triangle_of tri.now x ≡ t
         → slice_index_or reached.new (triangle_of tri.now (inverse x)) false ≡ true }
     ensures only { (u : ℕ) → slice_index_or reached.new u false ≡ true

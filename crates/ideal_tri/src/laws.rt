@@ -1,12 +1,18 @@
 //! What is proved of the definitions that the contracts cite.
 //!
-//! The functions do nothing: each is called, in a body or by a layer above, where a proof needs what its contract says.
+//! The functions do nothing: each is called, in a body or by a layer above, where a proof needs
+//! what its contract says.
+ghost use Rattle.std.specs.Prelude.{ℤ, List};
+ghost use Rattle.ideal_tri.specs.Triangulations.{IsTriangulation};
 ghost use Rattle.ideal_tri.specs.LabelLaws.{LabelLaws};
 ghost use Rattle.ideal_tri.specs.WordLaws.{WordLaws};
+ghost use Rattle.ideal_tri.specs.DrawingLaws.{DrawingLaws, SameCurvesLaws};
+ghost use Rattle.ideal_tri.specs.StrandLaws.{StrandLaws};
+ghost use Rattle.ideal_tri.specs.CornerLaws.{CornerLaws};
 ghost use Rattle.ideal_tri.specs.SurfaceLaws.{SurfaceLaws};
-ghost use Rattle.ideal_tri.specs.FlipLaws.{QuadrilateralLaws};
+ghost use Rattle.ideal_tri.specs.FlipLaws.{FlipLaws};
 ghost use Rattle.ideal_tri.specs.TripleLaws.{TripleLaws};
-ghost use Rattle.ideal_tri.specs.VertexLaws.{PunctureLaws};
+ghost use Rattle.ideal_tri.specs.VertexLaws.{VertexLaws};
 ghost use Rattle.ideal_tri.specs.ComponentLaws.{ComponentLaws};
 ghost use Rattle.ideal_tri.specs.HitLaws.{HitLaws};
 ghost use Rattle.ideal_tri.specs.BijectionLaws.{BijectionLaws};
@@ -22,14 +28,38 @@ pub fn word_laws()
     ensures { WordLaws }
 {}
 
-/// What is proved of triangulations, walks and the drawings of a vector.
+/// What is proved of lists of closed words up to order, rotation and direction.
+pub fn same_curves_laws()
+    ensures { SameCurvesLaws }
+{}
+
+/// What is proved of the drawings of a vector: they exist, their words are unique up to order,
+/// rotation and direction, and one begins each curve at its least strand, in rising order.
+pub fn drawing_laws()
+    ensures { (triples : List (List ℤ)) → IsTriangulation triples → DrawingLaws triples }
+{}
+
+/// What is proved of the steps of strands: where they lead, and how the curves of a drawing are
+/// found strand by strand.
+pub fn strand_laws()
+    ensures { (triples : List (List ℤ)) → IsTriangulation triples → StrandLaws triples }
+{}
+
+/// What is proved of the corners of a vector: it is a multicurve where its sides are sums of counts
+/// at corners, it has a curve round a vertex exactly where all corners there have strands, and
+/// these curves can be taken off.
+pub fn corner_laws()
+    ensures { (triples : List (List ℤ)) → IsTriangulation triples → CornerLaws triples }
+{}
+
+/// What is proved of triangulations, and of walks on them.
 pub fn surface_laws()
     ensures { SurfaceLaws }
 {}
 
 /// What is proved of the flip of an edge.
 pub fn flip_laws()
-    ensures { QuadrilateralLaws }
+    ensures { FlipLaws }
 {}
 
 /// What is proved of the triples of a triangulation, read from any of their sides.
@@ -37,12 +67,14 @@ pub fn triple_laws()
     ensures { TripleLaws }
 {}
 
-/// What is proved of the vertices of a triangulation: how they are numbered, and that there are no more than on spheres.
+/// What is proved of the vertices of a triangulation: how they are numbered, and that there are no
+/// more than on spheres.
 pub fn vertex_laws()
-    ensures { PunctureLaws }
+    ensures { VertexLaws }
 {}
 
-/// What is proved of the components of a triangulation: how they are numbered, and that none is a single triangle.
+/// What is proved of the components of a triangulation: how they are numbered, and that none is a
+/// single triangle.
 pub fn component_laws()
     ensures { ComponentLaws }
 {}
@@ -52,13 +84,15 @@ pub fn hit_laws()
     ensures { HitLaws }
 {}
 
-/// What is proved of the images of labels and of words, of bijections of labels, and of their inverse images.
+/// What is proved of the images of labels and of words, of bijections of labels, and of their
+/// inverse images.
 pub fn bijection_laws()
     ensures { BijectionLaws }
 {}
 
-/// What is proved of relabellings: they go with the sides and the triangles, their inverses and compositions are relabellings, and
-/// they carry the curves that draw a vector to curves that the moved vector counts.
+/// What is proved of relabellings: they go with the sides and the triangles, their inverses and
+/// compositions are relabellings, and they carry the curves that draw a vector to curves that the
+/// moved vector counts.
 pub fn relabelling_laws()
     ensures { RelabellingLaws }
 {}

@@ -8,5 +8,5 @@ pub returns-in_err-relabelling-clause-found : goal.returns-in_err-relabelling-cl
 returns-in_err-relabelling-clause-found c =
     let told = ap (option_map (λ g. generator_of g.0 g.1.items)) (sym c.in-Some.is) ∙ c.in_ok-name.ensures in
     passed_mapped _ _ _ _ _ c.from_residual-in_err-relabelling.ensures.1
-    (refused_images c.hit_laws.ensures c.args.tri.now _ c.in-Some.name _ _ _ told c.deref.ensures.value
-    c.in_err-relabelling.ensures.refused)
+    (refused_images c.args.tri.now _ c.in-Some.name _ _ told c.deref.ensures.value
+    c.in_err-relabelling.ensures.exact)

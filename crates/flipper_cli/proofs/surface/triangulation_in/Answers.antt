@@ -7,4 +7,4 @@ pub returns-in_err-from_triples-clause-found : goal.returns-in_err-from_triples-
 returns-in_err-from_triples-clause-found c =
     let told = ap (option_map (λ v. v.items)) (sym c.in-Some.is) ∙ c.in_ok-triangles.ensures in
     passed _ IsWhole _ _ c.from_residual-in_err-from_triples.ensures.1
-    (refused_triangles _ _ _ _ told c.deref.ensures.value c.in_err-from_triples.ensures.refused)
+    (refused_triangles _ _ _ told c.deref.ensures.value c.in_err-from_triples.ensures.exact)

@@ -13,7 +13,7 @@ pub index_mut-requires : goal.index_mut-requires
 index_mut-requires c =
     let images = c.args.relabelling.now in
     let label : c.new.result ≡ pos c.loop-edge.edge = search rules in
-    let edge = found images _ _ _ _ c.edge.ensures c.image-image.ensures label in
+    let edge = found images _ _ _ _ c.edge.ensures c.image-image.ensures.value label in
     let long : length c.loop-edge.moved.items ≡ length c.args.w.now = c.loop-edge.invariant.as_long in
     let inside : edge_of (image_of images (pos c.loop-edge.edge)) < length c.args.w.now =
     image_inside c.bijection_laws.ensures images _ _ c.requires.same c.requires.bijection (omega arith) in
@@ -24,7 +24,7 @@ loop-edge-preserved c =
     let images = c.args.relabelling.now in
     let n = get_or c.args.w.now c.loop-edge.edge 0 in
     let label : c.new.result ≡ pos c.loop-edge.edge = search rules in
-    let edge = found images _ _ _ _ c.edge.ensures c.image-image.ensures label in
+    let edge = found images _ _ _ _ c.edge.ensures c.image-image.ensures.value label in
     moved_more c.bijection_laws.ensures images c.args.w.now c.loop-edge.moved.items _ c.loop-edge.edge
     c.requires.same c.requires.bijection (omega arith) c.loop-edge.invariant
     (ap (λ (d : ℕ). set c.loop-edge.moved.items d n) edge)

@@ -1,28 +1,30 @@
-use Rattle.std.proofs.Common.{◌≡◌, ◌<◌, ◌≤◌, ◌∙◌, ℕ, ℤ, replicate, List, true, false, inl, inr, refl, length, get_or, set, ap, sym, arith}
+use Rattle.std.proofs.Common.{◌≡◌, ◌<◌, ◌≤◌, ◌∙◌, ℤ, replicate, List, true, false, inl, inr, length, arith}
 use Rattle.std.proofs.lemmas.List.{length-set, length-replicate}
+use Rattle.ideal_tri.specs.declared.tri.TheConstants.{TRIANGLES}
 use Rattle.ideal_tri.specs.Labels.{inverse}
 use Rattle.ideal_tri.specs.Triangulations.{triangle_of}
 use Rattle.ideal_tri.proofs.Places.{small_size}
 use Rattle.ideal_tri.proofs.Triangles.{triangle_laws}
 use Rattle.ideal_tri.proofs.Walks.{reached_along}
-use Rattle.ideal_tri.proofs.Reaching.{IsClosed, marked, marked_first, none_done, was_marked, fewer_unmarked, reached_marked}
+use Rattle.ideal_tri.proofs.Reaching.{IsClosed, marked, marked_first, none_done, was_marked, fewer_unmarked}
+use Rattle.ideal_tri.proofs.Reaching.{reached_marked}
 use Rattle.ideal_tri.proofs.component.reached_from.Goals as goal
 
 pub loop-t-init : goal.loop-t-init
 loop-t-init c =
-    let few : length c.args.tri.now ≤ 32 = small_size c.args.tri.now c.triangles-count.ensures.size in
-    let room : length (replicate 32 false) ≡ 32 = length-replicate 32 false in
+    let few : length c.args.tri.now ≤ TRIANGLES = small_size c.args.tri.now c.triangles-count.ensures.size in
+    let room : length (replicate TRIANGLES false) ≡ TRIANGLES = length-replicate TRIANGLES false in
     record {
-      room = length-set (replicate 32 false) c.args.start true ∙ room;
+      room = length-set (replicate TRIANGLES false) c.args.start true ∙ room;
       done_room = room;
-      start = marked (replicate 32 false) c.args.start (omega arith);
+      start = marked (replicate TRIANGLES false) c.args.start (omega arith);
       sound = marked_first c.args.tri.now c.args.start;
       crossed = λ x l m. none_done (triangle_of c.args.tri.now x) m;
     }
 
 pub loop-t-smaller : goal.loop-t-smaller
 loop-t-smaller c =
-    let few : length c.args.tri.now ≤ 32 = small_size c.args.tri.now c.triangles-count.ensures.size in
+    let few : length c.args.tri.now ≤ TRIANGLES = small_size c.args.tri.now c.triangles-count.ensures.size in
     let (within, is_reached, is_open) = c.in-Some.ensures.some in
     fewer_unmarked c.loop-t.done c.in-Some.t (omega arith) is_open
 
