@@ -1,9 +1,10 @@
-use Rattle.std.proofs.Common.{◌<◌, ◌^◌, ◌==◌, ◌∙◌, ℕ, List, sym, subst, length, lit<, All, arith}
+use Rattle.std.proofs.Common.{◌<◌, ◌==◌, ◌∙◌, ℕ, List, sym, subst, length, lit<, All, arith}
 use Rattle.std.specs.List.{slice_split}
 use Rattle.std.proofs.lemmas.Iterator.Splits.{YieldsList-from_str_split}
 use Rattle.std.proofs.lemmas.Iterator.Consumers.{YieldsList-at, YieldsList-turn, YieldsList-end}
 use Rattle.std.proofs.lemmas.List.{length_push}
 use Rattle.std.proofs.lemmas.List.Elements.{All-push}
+use Rattle.flipper_cli.specs.Limits.{coordinate_end}
 use Rattle.flipper_cli.proofs.Fields.{with_front-some, with_front-none, with_front-all}
 use Rattle.flipper_cli.proofs.vector.coordinates_in.Goals as goal
 
@@ -18,14 +19,14 @@ loop-field-preserved c =
     c.next.ensures.steps in
     let before = c.loop-field.coordinates.items in
     let longer = c.in_ok-push-in-Some-coordinate_in.ensures.items in
-    let Small : List ℕ → Type 0 = λ ns. All (λ n. n < 2 ^ 126) ns in
+    let Small : List ℕ → Type 0 = λ ns. All (λ n. n < coordinate_end) ns in
     record {
       so_far = with_front-some before c.push.new.self.items fields (length c.loop-field.yielded) _ c.in-Some.field.now
           c.in-Some-coordinate_in.n turn (sym c.coordinate_in.ensures.value ∙ c.in-Some-coordinate_in.is) longer
           (length_push c.loop-field.yielded c.in-Some.field)
           ∙ c.loop-field.invariant.so_far;
       small = subst Small (sym longer)
-          (All-push (λ n. n < 2 ^ 126) before c.in-Some-coordinate_in.n c.loop-field.invariant.small
+          (All-push (λ n. n < coordinate_end) before c.in-Some-coordinate_in.n c.loop-field.invariant.small
           c.in-Some-coordinate_in.ensures.small);
     }
 
