@@ -1,0 +1,3 @@
+pub mod Coordinates
+pub mod Refusals
+pub mod inside
