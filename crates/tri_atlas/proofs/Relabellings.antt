@@ -265,7 +265,7 @@ relabelling_undone before target images x h l =
     image_undone (edge_count target) images x (bijection_of before target images h)
     (subst (λ (n : ℕ). edge_of x < n) (same_edges before target images h) l)
 
-pub three_letters : (t : List ℤ) → length t ≡ 3 → (a : ℤ) × (b : ℤ) × (c : ℤ) × (t ≡ a ∷ (b ∷ (c ∷ [])))
+three_letters : (t : List ℤ) → length t ≡ 3 → (a : ℤ) × (b : ℤ) × (c : ℤ) × (t ≡ a ∷ (b ∷ (c ∷ [])))
 three_letters [] h = absurd (omega arith)
 three_letters (a ∷ []) h = absurd (omega arith)
 three_letters (a ∷ (b ∷ [])) h = absurd (omega arith)

@@ -11,12 +11,15 @@ pub mod Multicurves
 pub mod Flipped
 pub mod Carried
 pub mod CarriedRuns
+pub mod CarriedCurves
 pub mod CarriedDrawings
 pub mod Passing
 pub mod FlipLaws
 pub mod Relabelled
+pub mod RelabelledRuns
 pub mod RelabelledDrawings
 pub mod Along
 pub mod Entries
+pub mod Beginnings
 pub mod Overflow
 pub mod Laws

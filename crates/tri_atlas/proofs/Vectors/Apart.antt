@@ -1,5 +1,5 @@
--- Apart from the two triangles at an edge: where two triangulations have the same other triangles, and two vectors the
--- same other numbers, corners have the same counts and strands take the same steps.
+-- Apart from the two triangles at an edge: where two triangulations have the same other triangles, and two vectors
+-- the same other numbers, corners have the same counts and strands take the same steps.
 use Rattle.std.proofs.Common.{ℕ, ℤ, cond, leb, List, ◌≡◌, ◌≢◌, ◌+◌, ◌-◌, ◌/◌, ◌∙◌, ap}
 use Rattle.ideal_tri.specs.Labels.{inverse, edge_of}
 use Rattle.ideal_tri.specs.SurfaceLaws.{TriangleLaws}
@@ -22,7 +22,8 @@ module _ (here there : List (List ℤ)) (w v : List ℕ) (e f a b c d : ℤ) (t 
   pub apart_previous : (x : ℤ) → IsLabel here x → IsApartFrom e f a b c d x → previous there x ≡ previous here x
   apart_previous x l q = ap (next there) (others x l q) ∙ others (next here x) (t.label x l) (away x l q)
 
-  pub apart_corner : (x : ℤ) → IsLabel here x → IsApartFrom e f a b c d x → corner_count there v x ≡ corner_count here w x
+  pub apart_corner : (x : ℤ) → IsLabel here x → IsApartFrom e f a b c d x
+      → corner_count there v x ≡ corner_count here w x
   apart_corner x l q =
       ap (λ (y : ℤ). (weight v x + weight v y - weight v (previous there x)) / 2) (others x l q)
       ∙ ap (λ (z : ℤ). (weight v x + weight v y - weight v z) / 2) (apart_previous x l q)

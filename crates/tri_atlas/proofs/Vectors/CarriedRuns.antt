@@ -1,145 +1,153 @@
--- A closed run is carried across a flip to a closed run that uses the same strands off the edge, and whose word is the image.
-use Rattle.std.proofs.Common.{ℕ, ℤ, Bool, true, false, cond, List, [], ◌∷◌, ◌++◌, ◌≡◌, ◌≢◌, ◌<◌, ◌+◌, inl, inr, refl, sym, ◌∙◌, ap, subst, append_assoc, arith, length, length-append, eq-eqb, eqb}
-use Rattle.std.specs.List.{All, count_by, flat_map}
-use Rattle.std.specs.Ordering.{int_eq}
-use Rattle.std.proofs.lemmas.Bool.{cases_Bool, and_left, eqb-true}
-use Rattle.std.proofs.lemmas.List.Elements.{All-nil, All-cons, All-head, All-tail, All-append}
-use Rattle.std.proofs.lemmas.List.Sums.{sum_by-cons, sum_by-append}
-use Rattle.ideal_tri.specs.Labels.{edge_of}
-use Rattle.ideal_tri.specs.Words.{inverse_word, reduce, cyclic_reduce, IsRotation}
-use Rattle.ideal_tri.specs.WordLaws.{ReductionLaws, CyclicLaws}
-use Rattle.ideal_tri.specs.Strands.{State, IsStrand, same_state, strand_step, Runs, IsClosedRun, word_of}
-use Rattle.tri_atlas.proofs.Letters.{int_eq-other, inverse_word-inverse_word, reduce-right}
-use Rattle.tri_atlas.proofs.Vectors.Exits.{is_on, past, crossed}
-use Rattle.tri_atlas.proofs.Vectors.Carried.{IsPassing, image_with, on_only, carried_state, carried, carried_state-on, carried_state-off, Carries, carries}
+-- A run of strands is carried across a flip: its states off the flipped edge stay, and between two of them stands the
+-- state on the edge after the flip, if there is one. The word of the carried run is the image of the word of the run,
+-- up to what is put before its first and its last letter.
+--
+-- The two triangulations, their vectors and what is put before letters enter by the properties of IsPassing alone, so
+-- that this serves flips and backward flips. Each state is taken by itself: a run may begin or end on the edge, where
+-- past leads on to the next state and crossed is the letter so passed.
+use Rattle.std.proofs.Common.{ℕ, ℤ, true, false, List, [], ◌∷◌, ◌++◌, ◌≡◌, inl, inr, sym, ◌∙◌}
+use Rattle.std.proofs.Common.{ap, subst, append_assoc}
+use Rattle.std.specs.List.{flat_map}
+use Rattle.std.proofs.lemmas.Bool.{cases_Bool, eqb-true}
+use Rattle.std.proofs.lemmas.List.{append-nil, map-append}
+use Rattle.ideal_tri.specs.Labels.{inverse, edge_of}
+use Rattle.ideal_tri.specs.Words.{inverse_word, reduce}
+use Rattle.ideal_tri.specs.WordLaws.{ReductionLaws}
+use Rattle.ideal_tri.specs.Strands.{State, IsStrand, strand_step, Runs, word_of}
+use Rattle.tri_atlas.proofs.Letters.{edge_of-inverse, reduce-reduce, reduce-left, reduce-right}
+use Rattle.tri_atlas.proofs.Vectors.Exits.{is_on, past, crossed, past-on, past-off, crossed-on, crossed-off}
+use Rattle.tri_atlas.proofs.Vectors.Passes.{Passes}
+use Rattle.tri_atlas.proofs.Vectors.Carried.{IsPassing, image_with, on_only, carried_state, carried}
+use Rattle.tri_atlas.proofs.Vectors.Carried.{carried_state-on, carried_state-off, word_of-on_only, runs_on_only}
 
--- ---- how often a carried run passes a state off the edge
-
-same_state-apart : (n : ℕ) (q p : State) → is_on n q ≡ false → is_on n p ≡ true → same_state q p ≡ false
-same_state-apart n q p off on =
-    and_left (int_eq q.label p.label) (eqb q.place p.place) (int_eq-other q.label p.label (λ e. apart (ap edge_of e)))
-  where
-    apart : edge_of q.label ≢ edge_of p.label
-    apart e = let yes : is_on n q ≡ true = eq-eqb (edge_of q.label) n (e ∙ eqb-true (edge_of p.label) n on) in cc
-
-module _ (there : List (List ℤ)) (v : List ℕ) (n : ℕ) (q : State) (off : is_on n q ≡ false) where
-  count-on_only : (p : State) → count_by (same_state q) (on_only n p) ≡ 0
-  count-on_only p =
-      elim (cases_Bool (is_on n p)) [
-        | inl on ↦
-            (ap (λ (b : Bool). count_by (same_state q) (cond b (p ∷ []) [])) on
-            ∙ sum_by-cons (λ r. cond (same_state q r) 1 0) p []
-            ∙ ap (λ (b : Bool). cond b 1 0 + count_by (same_state q) []) (same_state-apart n q p off on))
-        | inr e ↦ ap (λ (b : Bool). count_by (same_state q) (cond b (p ∷ []) [])) e
-      ]
-
-  count-carried_state : (p : State) → count_by (same_state q) (carried_state there v n p) ≡ cond (same_state q p) 1 0
-  count-carried_state p =
-      elim (cases_Bool (is_on n p)) [
-        | inl on ↦
-            (ap (count_by (same_state q)) (carried_state-on there v n p on)
-            ∙ sym (ap (λ (b : Bool). cond b 1 0) (same_state-apart n q p off on)))
-        | inr e ↦
-            (ap (count_by (same_state q)) (carried_state-off there v n p e)
-            ∙ omega (arith, sum_by-cons (λ r. cond (same_state q r) 1 0) p (on_only n (strand_step there v p)), count-on_only (strand_step there v p)))
-      ]
-
-  pub count-carried : (run : List State) → count_by (same_state q) (carried there v n run) ≡ count_by (same_state q) run
-  count-carried [] = refl
-  count-carried (p ∷ run) =
-      omega (
-        arith,
-        sum_by-append (λ r. cond (same_state q r) 1 0) (carried_state there v n p) (carried there v n run),
-        sum_by-cons (λ r. cond (same_state q r) 1 0) p run,
-        count-carried_state p,
-        count-carried run,
-      )
-
--- ---- closed runs
-
-module _ (laws : ReductionLaws) (cyclic : CyclicLaws) (here there : List (List ℤ)) (w v : List ℕ) (n : ℕ) (pre : ℤ → List ℤ)
+module _ (laws : ReductionLaws) (here there : List (List ℤ)) (w v : List ℕ) (n : ℕ) (pre : ℤ → List ℤ)
     (h : IsPassing here there w v n pre) where
+  -- what is carried of a run
   abbrev pub carry : List State → List State
   carry run = carried there v n run
 
-  valid-on_only : (q : State) → IsStrand there v q → All (IsStrand there v) (on_only n q)
-  valid-on_only q s =
-      elim (cases_Bool (is_on n q)) [
-        | inl e ↦ subst (λ (b : Bool). All (IsStrand there v) (cond b (q ∷ []) [])) (sym e) (All-cons (IsStrand there v) q [] s (All-nil (IsStrand there v)))
-        | inr e ↦ subst (λ (b : Bool). All (IsStrand there v) (cond b (q ∷ []) [])) (sym e) (All-nil (IsStrand there v))
-      ]
+  -- the words of the run and of the carried run, up to what is put before their ends
+  abbrev WordsAgree : State → List State → State → Type 0
+  WordsAgree q run r =
+      reduce (flat_map (image_with pre) (word_of run) ++ (crossed n r ++ pre (past here w n r).label))
+      ≡ reduce (crossed n q ++ (pre (past here w n q).label ++ word_of (carry run)))
 
-  valid-carried_state : (q : State) → IsStrand here w q → All (IsStrand there v) (carried_state there v n q)
-  valid-carried_state q s =
-      elim (cases_Bool (is_on n q)) [
-        | inl e ↦ subst (All (IsStrand there v)) (sym (carried_state-on there v n q e)) (All-nil (IsStrand there v))
-        | inr e ↦
-            (let valid : IsStrand there v q = h.to_there q e s in
-            subst (All (IsStrand there v)) (sym (carried_state-off there v n q e))
-            (All-cons (IsStrand there v) q (on_only n (strand_step there v q)) valid (valid-on_only (strand_step there v q) (h.valid_there q valid))))
-      ]
+  pub record Carries (q : State) (run : List State) (r : State) : Type 0 where
+    pub runs : Runs there v (past here w n q) (carry run) (past here w n r)
+    pub words : WordsAgree q run r
 
-  valid-carry : (run : List State) → All (IsStrand here w) run → All (IsStrand there v) (carry run)
-  valid-carry [] s = All-nil (IsStrand there v)
-  valid-carry (q ∷ run) s =
-      All-append (IsStrand there v) (carried_state there v n q) (carry run)
-      (valid-carried_state q (All-head (IsStrand here w) q run s))
-      (valid-carry run (All-tail (IsStrand here w) q run s))
+  carries_none : (q r : State) → q ≡ r → Carries q [] r
+  carries_none q r is = record {
+    runs = ap (past here w n) is;
+    words =
+        ap (λ (s : State). reduce (crossed n s ++ pre (past here w n s).label)) (sym is)
+        ∙ ap (λ (u : List ℤ). reduce (crossed n q ++ u)) (sym (append-nil (pre (past here w n q).label)));
+  }
 
-  -- something is carried of a state off the edge
-  carried_some : (q : State) (run : List State) → is_on n q ≡ false → 0 < length (carried_state there v n q ++ run)
-  carried_some q run e =
-      subst (λ (r : List State). 0 < length (r ++ run)) (sym (carried_state-off there v n q e)) (omega arith)
+  plain_image : (x : ℤ) → edge_of x ≡ n → image_with pre x ≡ x ∷ []
+  plain_image x on =
+      ap (λ (u : List ℤ). u ++ (x ∷ inverse_word (pre (inverse x)))) (h.plain x on)
+      ∙ ap (λ (u : List ℤ). x ∷ inverse_word u) (h.plain (inverse x) (edge_of-inverse x ∙ on))
 
-  -- of two states in a row one is off the edge
-  some_carried : (q r : State) (run : List State) → 0 < length run → IsStrand here w q → Runs here w q run r → r ≡ q → 0 < length (carry run)
-  some_carried q r [] some s runs back = absurd (omega arith)
-  some_carried q r (p ∷ run) some s (at, rest) back =
-      elim (cases_Bool (is_on n p)) [
-        | inr off ↦ carried_some p (carry run) off
-        | inl on ↦ (let next = h.off_here q s (subst (λ (t : State). is_on n t ≡ true) at on) in later run rest next on)
-      ]
+  -- from a state on the edge
+  carries_on : (q r : State) (run : List State) → IsStrand here w q → is_on n q ≡ true
+      → Carries (strand_step here w q) run r → Carries q (q ∷ run) r
+  carries_on q r run s on c = record {
+    runs = subst (λ (p : List State). Runs there v (past here w n q) (p ++ carry run) (past here w n r)) (sym gone)
+        (subst (λ (p : State). Runs there v p (carry run) (past here w n r)) goes c.runs);
+    words =
+        ap (λ (u : List ℤ). reduce ((u ++ flat_map (image_with pre) (word_of run)) ++ end))
+        (plain_image q.label (eqb-true (edge_of q.label) n on))
+        ∙ reduce-right laws (q.label ∷ []) (flat_map (image_with pre) (word_of run) ++ end)
+        (crossed n next ++ (pre (past here w n next).label ++ word_of (carry run))) c.words
+        ∙ ap (λ (u : List ℤ). reduce
+        ((q.label ∷ []) ++ (u ++ (pre (past here w n next).label ++ word_of (carry run))))) (crossed-off n next off)
+        ∙ ap (λ (p : State). reduce ((q.label ∷ []) ++ (pre p.label ++ word_of (carry run)))) goes
+        ∙ ap (λ (u : List ℤ). reduce (u ++ (pre (past here w n q).label ++ word_of (carry run))))
+        (sym (crossed-on n q on))
+        ∙ ap (λ (p : List State). reduce (crossed n q ++ (pre (past here w n q).label ++ word_of (p ++ carry run))))
+        (sym gone);
+  }
     where
-      longer : (xs ys : List State) → 0 < length ys → 0 < length (xs ++ ys)
-      longer xs ys l = omega (arith, length-append xs ys)
+      next : State
+      next = strand_step here w q
 
-      later : (more : List State) → Runs here w (strand_step here w q) more r → is_on n (strand_step here w q) ≡ false → is_on n p ≡ true
-          → 0 < length (carried_state there v n p ++ carry more)
-      later [] end off on =
-          let no : is_on n p ≡ false = ap (is_on n) (at ∙ sym back ∙ sym end) ∙ off in
-          absurd (let both : true ≡ false = sym on ∙ no in cc)
-      later (t ∷ more) (then, _) off on =
-          longer (carried_state there v n p) (carry (t ∷ more)) (carried_some t (carry more) (ap (is_on n) then ∙ off))
-
-  first_valid : (run : List State) (c : IsClosedRun here w run) → IsStrand here w c.start
-  first_valid [] c = absurd (let some : 0 < 0 = c.not_empty in omega arith)
-  first_valid (q ∷ run) c = subst (IsStrand here w) c.closes.0 (All-head (IsStrand here w) q run c.strands)
-
-  pub carried_closed : (run : List State) → IsClosedRun here w run → IsClosedRun there v (carry run)
-  carried_closed run c =
-      let goes : Carries laws here there w v n pre h c.start run c.start = carries laws here there w v n pre h c.start c.start run (first_valid run c) c.closes in
-      record {
-        start = past here w n c.start;
-        not_empty = some_carried c.start c.start run c.not_empty (first_valid run c) c.closes refl;
-        strands = valid-carry run c.strands;
-        closes = goes.runs;
-      }
-
-  -- the word of a closed run is carried to its image, begun elsewhere
-  pub carried_word : (run : List State) → IsClosedRun here w run → IsRotation (cyclic_reduce (flat_map (image_with pre) (word_of run))) (cyclic_reduce (word_of (carry run)))
-  carried_word run c =
-      let goes : Carries laws here there w v n pre h c.start run c.start = carries laws here there w v n pre h c.start c.start run (first_valid run c) c.closes in
-      cyclic.conjugate end image carried_letters
-      (reduce-right laws (inverse_word end) (image ++ end) (end ++ carried_letters)
-      (goes.words ∙ ap reduce (sym (append_assoc (crossed n c.start) (pre (past here w n c.start).label) carried_letters)))
-      ∙ ap (λ (u : List ℤ). reduce (inverse_word end ++ (u ++ carried_letters))) (sym (inverse_word-inverse_word end))
-      ∙ laws.cancel [] (inverse_word end) carried_letters)
-    where
       end : List ℤ
-      end = crossed n c.start ++ pre (past here w n c.start).label
+      end = crossed n r ++ pre (past here w n r).label
 
-      image : List ℤ
-      image = flat_map (image_with pre) (word_of run)
+      off : is_on n (strand_step here w q) ≡ false
+      off = h.off_here q s on
 
-      carried_letters : List ℤ
-      carried_letters = word_of (carried there v n run)
+      gone : carried_state there v n q ≡ []
+      gone = carried_state-on there v n q on
+
+      goes : past here w n (strand_step here w q) ≡ past here w n q
+      goes = past-off here w n (strand_step here w q) off ∙ sym (past-on here w n q on)
+
+  around : (P I F R e z W e' : List ℤ) (y : ℤ) → reduce (F ++ R) ≡ reduce (e ++ (z ++ W)) → reduce (I ++ (e ++ z)) ≡ e'
+      → reduce (((P ++ (y ∷ I)) ++ F) ++ R) ≡ reduce (P ++ (y ∷ (e' ++ W)))
+  around P I F R e z W e' y before between =
+      ap reduce (append_assoc (P ++ (y ∷ I)) F R)
+      ∙ reduce-right laws (P ++ (y ∷ I)) (F ++ R) (e ++ (z ++ W)) before
+      ∙ ap reduce (append_assoc P (y ∷ I) (e ++ (z ++ W)))
+      ∙ ap (λ (u : List ℤ). reduce (P ++ (y ∷ u)))
+      (ap (λ (u : List ℤ). I ++ u) (sym (append_assoc e z W)) ∙ sym (append_assoc I (e ++ z) W))
+      ∙ reduce-right laws P (y ∷ ((I ++ (e ++ z)) ++ W)) (y ∷ (e' ++ W))
+      (reduce-right laws (y ∷ []) ((I ++ (e ++ z)) ++ W) (e' ++ W)
+      (reduce-left laws (I ++ (e ++ z)) e' W (sym (reduce-reduce laws (I ++ (e ++ z))) ∙ ap reduce between)))
+
+  -- from a state off the edge
+  carries_off : (q r : State) (run : List State) → IsStrand here w q → is_on n q ≡ false
+      → Carries (strand_step here w q) run r → Carries q (q ∷ run) r
+  carries_off q r run s off c = record {
+    runs = subst (λ (p : List State). Runs there v (past here w n q) (p ++ carry run) (past here w n r)) (sym kept) (
+      sym stays,
+      subst
+          (λ (p : State). Runs there v (strand_step there v p) (on_only n after ++ carry run) (past here w n r))
+          (sym stays) rest,
+    );
+    words =
+        around (pre q.label) (inverse_word (pre (inverse q.label))) (flat_map (image_with pre) (word_of run))
+        (crossed n r ++ pre (past here w n r).label)
+        (crossed n next) (pre (past here w n next).label) (word_of (carry run))
+        (crossed n after) q.label c.words agree.word
+        ∙ ap (λ (u : List ℤ). reduce (pre q.label ++ (q.label ∷ (u ++ word_of (carry run)))))
+        (sym (word_of-on_only there v n after))
+        ∙ ap (λ (u : List ℤ). reduce (pre q.label ++ (q.label ∷ u)))
+        (sym (map-append (λ (p : State). p.label) (on_only n after) (carry run)))
+        ∙ ap (λ (p : List State). reduce (pre q.label ++ word_of (p ++ carry run))) (sym kept)
+        ∙ ap (λ (p : State). reduce (pre p.label ++ word_of (carry (q ∷ run)))) (sym (past-off here w n q off))
+        ∙ ap (λ (u : List ℤ). reduce (u ++ (pre (past here w n q).label ++ word_of (carry (q ∷ run)))))
+        (sym (crossed-off n q off));
+  }
+    where
+      next : State
+      next = strand_step here w q
+
+      after : State
+      after = strand_step there v q
+
+      agree : Passes here there w v n pre q (inverse q.label)
+      agree = h.passes q off s
+
+      stays : past here w n q ≡ q
+      stays = past-off here w n q off
+
+      kept : carried_state there v n q ≡ q ∷ on_only n (strand_step there v q)
+      kept = carried_state-off there v n q off
+
+      rest : Runs there v (strand_step there v q) (on_only n (strand_step there v q) ++ carry run) (past here w n r)
+      rest =
+          runs_on_only there v n after (past here w n r) (carry run)
+          (subst (λ (p : State). Runs there v p (carry run) (past here w n r)) agree.same c.runs)
+
+  -- a run is carried to a run
+  pub carries : (q r : State) (run : List State) → IsStrand here w q → Runs here w q run r → Carries q run r
+  carries q r [] s is = carries_none q r is
+  carries q r (p ∷ run) s (at, rest) =
+      let next : Carries (strand_step here w q) run r = carries (strand_step here w q) r run (h.valid_here q s) rest in
+      subst (λ (x : State). Carries q (x ∷ run) r) (sym at)
+      (elim (cases_Bool (is_on n q)) [
+        | inl on ↦ carries_on q r run s on next
+        | inr off ↦ carries_off q r run s off next
+      ])

@@ -1,9 +1,9 @@
 -- Where a strand leaves the quadrilateral at an edge, and the letter of the edge that it crosses on the way.
 --
--- From place i of the side a of (e,a,b) and (f,c,d) a strand goes to b where it does not turn round the corner of e, or
--- else through the edge at the same place i of f, and from there to c or d. From place i of b it goes back to a, or else
--- through the edge at the place j of f that is as far from the end of f as i from the end of b. The other two sides are
--- these, seen from the other label of the edge.
+-- From place i of the side a of (e,a,b) and (f,c,d) a strand goes to b where it does not turn round the corner of e,
+-- or else through the edge at the same place i of f, and from there to c or d. From place i of b it goes back to a,
+-- or else through the edge at the place j of f that is as far from the end of f as i from the end of b. The other two
+-- sides are these, seen from the other label of the edge.
 use Rattle.std.proofs.Common.{ℕ, ℤ, Bool, true, false, cond, List, [], ◌∷◌, ◌≡◌, ◌≢◌, ◌≤◌, ◌<◌, ◌+◌, ◌-◌, refl, sym}
 use Rattle.std.proofs.Common.{◌∙◌, ap, subst, arith, nat_eq, eq-eqb, ne_eqb}
 use Rattle.ideal_tri.specs.Labels.{inverse, edge_of}
@@ -50,8 +50,9 @@ off_edge n r x is other = ne_eqb (edge_of r.label) n (λ e. other (sym (ap edge_
 
 -- ---- from place i of a, or of b
 
--- X is the state where the strand leaves the quadrilateral, and the letters are those of the edge that it crosses before.
--- The numbers of the sides a, b, d and of the edge are A, B, D, E; from a, k and l are the strands at the corners of e and d
+-- X is the state where the strand leaves the quadrilateral, and the letters are those of the edge that it crosses
+-- before. The numbers of the sides a, b, d and of the edge are A, B, D, E; from a, k and l are the strands at the
+-- corners of e and d
 pub data FirstExit (k l A E D i : ℕ) (e b c d : ℤ) (X : State) (letters : List ℤ) : Type 0 where
   near : k ≤ i → X.label ≡ b → i + X.place + 1 ≡ A → letters ≡ [] → FirstExit k l A E D i e b c d X letters
   across_c : i < k → l ≤ i → X.label ≡ c → i + X.place + 1 ≡ E → letters ≡ e ∷ []
@@ -59,7 +60,8 @@ pub data FirstExit (k l A E D i : ℕ) (e b c d : ℤ) (X : State) (letters : Li
   across_d : i < k → i < l → X.label ≡ d → i + X.place + 1 ≡ D → letters ≡ e ∷ []
       → FirstExit k l A E D i e b c d X letters
 
--- from b, k and l are those at the corners of a and d, and j is the place at which the strand comes into the other triangle
+-- from b, k and l are those at the corners of a and d, and j is the place at which the strand comes into the other
+-- triangle
 pub data SecondExit (k l A B E D i : ℕ) (a c d e : ℤ) (X : State) (letters : List ℤ) : Type 0 where
   near : i < k → X.label ≡ a → i + X.place + 1 ≡ A → letters ≡ [] → SecondExit k l A B E D i a c d e X letters
   across_c : k ≤ i → (j : ℕ) → j + B ≡ i + E → l ≤ j → X.label ≡ c → j + X.place + 1 ≡ E → letters ≡ e ∷ []
@@ -119,20 +121,23 @@ module _ (triples : List (List ℤ)) (w : List ℕ) (e f a b c d : ℤ) (h : Has
   first_through below (on above label place) = FirstExit.across_c below above label place refl
   first_through below (back less label place) = FirstExit.across_d below less label place refl
 
-  second_through : k a ≤ i → (j : ℕ) → j + weight w b ≡ i + weight w e → Onwards j → Second (strand_step triples w r) (e ∷ [])
+  second_through : k a ≤ i → (j : ℕ) → j + weight w b ≡ i + weight w e → Onwards j
+      → Second (strand_step triples w r) (e ∷ [])
   second_through above j there (on more label place) = SecondExit.across_c above j there more label place refl
   second_through above j there (back less label place) = SecondExit.across_d above j there less label place refl
 
   pub exits_first : inverse q.label ≡ a → q.place + i + 1 ≡ weight w a → First X letters
   exits_first at there =
-      elim (turns_at triples w q i (weight w a) a b e h s.label_e at s.after_a (before_a triples e f a b c d s) (beyond a at) there) [
+      elim (turns_at triples w q i (weight w a) a b e h s.label_e at s.after_a (before_a triples e f a b c d s)
+      (beyond a at) there) [
         | on above label place ↦ at_once First b label s.off_b (FirstExit.near above label place refl)
         | back below label place ↦ over_edge First i label (omega arith) (first_through below)
       ]
 
   pub exits_second : inverse q.label ≡ b → q.place + i + 1 ≡ weight w b → Second X letters
   exits_second at there =
-      elim (turns_at triples w q i (weight w b) b e a h s.label_a at s.after_b (before_b triples e f a b c d s) (beyond b at) there) [
+      elim (turns_at triples w q i (weight w b) b e a h s.label_a at s.after_b (before_b triples e f a b c d s)
+      (beyond b at) there) [
         | back below label place ↦ at_once Second a label s.off_a (SecondExit.near below label place refl)
         | on above label place ↦
             (let sums = sums_of triples e f a b c d s w h in

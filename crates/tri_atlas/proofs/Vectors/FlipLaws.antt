@@ -1,8 +1,8 @@
 -- The vector after a flip, and after a backward flip: its multicurve, its curves, and the way back.
 --
--- The pair of the two vectors has the properties by which drawings are carried, forwards and backwards; so the images of
--- the words of any drawing are the words of any drawing after the move, and these cross each edge as often as the new
--- vector says.
+-- The pair of the two vectors has the properties by which drawings are carried, forwards and backwards; so the images
+-- of the words of any drawing are the words of any drawing after the move, and these cross each edge as often as the
+-- new vector says.
 use Rattle.std.proofs.Common.{ℕ, ℤ, List, ◌≡◌, ◌≢◌, ◌<◌, refl, sym, ◌∙◌, subst, arith, length, set}
 use Rattle.ideal_tri.specs.Labels.{inverse, edge_of}
 use Rattle.ideal_tri.specs.Curves.{IsSameCurves}
@@ -59,7 +59,8 @@ module _ (g : Given) (before target : List (List ℤ)) (e a b c d : ℤ) (p : Is
       pair_of g before target e a b c d p t h w v m k new.numbers new.sum in
       let curves =
       passed_words g before target w v (edge_of e) (step_before e b d)
-      (flip_passing before target w v e (inverse e) a b c d (g.strands before p) (g.strands target t) m k pair) p t m k edges in
+      (flip_passing before target w v e (inverse e) a b c d (g.strands before p)
+      (g.strands target t) m k pair) p t m k edges in
       record {
         multicurve = k;
         curves = λ runs after drawn other. curves runs drawn after other;

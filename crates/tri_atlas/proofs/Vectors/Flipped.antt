@@ -1,8 +1,8 @@
 -- The numbers after a flip, and after a backward flip.
 --
--- The vector after either has the numbers of the one before, but for that of the edge, where the two make up the greater
--- sum of opposite sides of the quadrilateral. It is a multicurve's, so the two vectors and the two triangulations are a
--- pair, and the same rule gives back the number before.
+-- The vector after either has the numbers of the one before, but for that of the edge, where the two make up the
+-- greater sum of opposite sides of the quadrilateral. It is a multicurve's, so the two vectors and the two
+-- triangulations are a pair, and the same rule gives back the number before.
 use Rattle.std.proofs.Common.{ℕ, ℤ, List, ◌≡◌, ◌≢◌, ◌≤◌, ◌<◌, ◌+◌, max, inl, inr, refl, sym, ◌∙◌, ap, subst, arith}
 use Rattle.std.proofs.Common.{length, set, get_or, length-set}
 use Rattle.std.specs.Prelude.{slice_index}
@@ -21,7 +21,8 @@ use Rattle.tri_atlas.proofs.Vectors.Turns.{HasCornerSums, same_number}
 use Rattle.tri_atlas.proofs.Vectors.Quadrilaterals.{Quadrilateral, IsApartFrom}
 use Rattle.tri_atlas.proofs.Vectors.Pairs.{IsFlippedPair}
 use Rattle.tri_atlas.proofs.Vectors.Sides.{sides_before, sides_after, others_stay}
-use Rattle.tri_atlas.proofs.Vectors.Multicurves.{IsSummed, summed, IsHalved-same, edge_below, first_halved, second_halved, sums_moved}
+use Rattle.tri_atlas.proofs.Vectors.Multicurves.{IsSummed, summed, IsHalved-same, edge_below, first_halved}
+use Rattle.tri_atlas.proofs.Vectors.Multicurves.{second_halved, sums_moved}
 
 -- ---- a vector with another number at one edge
 
@@ -62,7 +63,8 @@ pub flip_back : (w v : List ℕ) (e a b c d : ℤ) → v ≡ set w (edge_of e) (
     → set v (edge_of e) (flipped_number v e a b c d) ≡ w
 flip_back w v e a b c d is h same below =
     ap (λ (u : List ℕ). set u (edge_of e) (flipped_number v e a b c d)) is
-    ∙ set-back w (edge_of e) (flipped_number w e a b c d) (flipped_number v e a b c d) (omega (arith, h.sum, same)) below
+    ∙ set-back w (edge_of e) (flipped_number w e a b c d) (flipped_number v e a b c d)
+    (omega (arith, h.sum, same)) below
 
 -- ---- the two triangulations
 
@@ -73,11 +75,13 @@ module _ (g : Given) (before target : List (List ℤ)) (e a b c d : ℤ) (p : Is
 
   there : Quadrilateral target e (inverse e) d a b c
   there =
-      sides_after before target e a b c d (g.surface.triangles before p) h (g.flips.flips before e p h.label h.flippable)
+      sides_after before target e a b c d (g.surface.triangles before p) h
+      (g.flips.flips before e p h.label h.flippable)
 
   others : (x : ℤ) → IsLabel before x → IsApartFrom e (inverse e) a b c d x → next target x ≡ next before x
   others =
-      others_stay before target e a b c d (g.surface.triangles before p) h (g.flips.flips before e p h.label h.flippable)
+      others_stay before target e a b c d (g.surface.triangles before p) h
+      (g.flips.flips before e p h.label h.flippable)
 
   edges : edge_count target ≡ edge_count before
   edges = flip_edges before target e a b c d h
@@ -116,7 +120,8 @@ module _ (g : Given) (before target : List (List ℤ)) (e a b c d : ℤ) (p : Is
     corners = sums_of_multicurve g before w p m
 
     sums : IsSummed (weight w e) (weight w a) (weight w b) (weight w c) (weight w d) (corner_count before w e)
-        (corner_count before w a) (corner_count before w b) (corner_count before w (inverse e)) (corner_count before w c)
+        (corner_count before w a) (corner_count before w b) (corner_count before w (inverse e))
+        (corner_count before w c)
         (corner_count before w d)
     sums = summed before w e (inverse e) a b c d corners here
 
@@ -137,7 +142,8 @@ module _ (g : Given) (before target : List (List ℤ)) (e a b c d : ℤ) (p : Is
         }) edges others new.numbers corners
         (IsHalved-same _ _ _ _ _ _ refl (sym (new.numbers d off_d)) (sym (new.numbers a here.off_a))
         (first_halved _ (weight v e) _ _ _ _ _ _ _ _ _ _ sums new.sum))
-        (IsHalved-same _ _ _ _ _ _ (sym (same_number v e (inverse e) refl)) (sym (new.numbers b here.off_b)) (sym (new.numbers c off_c))
+        (IsHalved-same _ _ _ _ _ _ (sym (same_number v e (inverse e) refl)) (sym (new.numbers b here.off_b))
+        (sym (new.numbers c off_c))
         (second_halved _ (weight v e) _ _ _ _ _ _ _ _ _ _ sums new.sum)))
 
   -- ---- backwards
@@ -147,7 +153,8 @@ module _ (g : Given) (before target : List (List ℤ)) (e a b c d : ℤ) (p : Is
     corners_there = sums_of_multicurve g target v t m
 
     sums_there : IsSummed (weight v e) (weight v d) (weight v a) (weight v b) (weight v c) (corner_count target v e)
-        (corner_count target v d) (corner_count target v a) (corner_count target v (inverse e)) (corner_count target v b)
+        (corner_count target v d) (corner_count target v a) (corner_count target v (inverse e))
+        (corner_count target v b)
         (corner_count target v c)
     sums_there = summed target v e (inverse e) d a b c corners_there there
 
@@ -177,7 +184,8 @@ module _ (g : Given) (before target : List (List ℤ)) (e a b c d : ℤ) (p : Is
         new.numbers corners_there
         (IsHalved-same _ _ _ _ _ _ refl (sym (new.numbers a here.off_a)) (sym (new.numbers b here.off_b))
         (second_halved _ (weight w e) _ _ _ _ _ _ _ _ _ _ sums_there turned_sum))
-        (IsHalved-same _ _ _ _ _ _ (sym (same_number w e (inverse e) refl)) (sym (new.numbers c off_c)) (sym (new.numbers d off_d))
+        (IsHalved-same _ _ _ _ _ _ (sym (same_number w e (inverse e) refl)) (sym (new.numbers c off_c))
+        (sym (new.numbers d off_d))
         (first_halved _ (weight w e) _ _ _ _ _ _ _ _ _ _ sums_there turned_sum)))
       where
         turned_sum : weight v e + weight w e ≡ max (weight v d + weight v b) (weight v a + weight v c)

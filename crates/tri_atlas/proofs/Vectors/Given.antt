@@ -24,7 +24,8 @@ pub record Given : Type 0 where
   pub strands : (triples : List (List ℤ)) → IsTriangulation triples → StrandLaws triples
 
 -- a vector is a multicurve's where its sides are sums of corners
-pub sums_of_multicurve : Given → (triples : List (List ℤ)) (w : List ℕ) → IsTriangulation triples → IsMulticurve triples w
+pub sums_of_multicurve : Given → (triples : List (List ℤ)) (w : List ℕ) → IsTriangulation triples
+    → IsMulticurve triples w
     → HasCornerSums triples w
 sums_of_multicurve g triples w t m = record { sums = λ x l. (g.drawings triples t).corners w x m l }
 

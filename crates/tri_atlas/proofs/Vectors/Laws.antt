@@ -12,9 +12,11 @@ use Rattle.tri_atlas.proofs.Vectors.Given.{Given}
 use Rattle.tri_atlas.proofs.Vectors.Flipped.{enough, enough_back}
 use Rattle.tri_atlas.proofs.Vectors.Relabelled.{weight-image}
 use Rattle.tri_atlas.proofs.Vectors.Along.{moved_laws, vector_along-append, along_laws}
-use Rattle.tri_atlas.proofs.Vectors.Overflow.{vector_along-next, overflow_laws}
+use Rattle.tri_atlas.proofs.Vectors.Beginnings.{vector_along-next}
+use Rattle.tri_atlas.proofs.Vectors.Overflow.{overflow_laws}
 
-module _ (g : Given) (triples : List (List ℤ)) (moves : List Move) (w : List ℕ) (runs : List (List State)) (p : IsTriangulation triples)
+module _ (g : Given) (triples : List (List ℤ)) (moves : List Move) (w : List ℕ) (runs : List (List State))
+    (p : IsTriangulation triples)
     (h : ArePath triples moves triples) (m : IsMulticurve triples w) (d : IsDrawing triples w runs) where
   laws : AlongLaws triples triples moves w
   laws = along_laws g triples triples moves w p h m
@@ -33,14 +35,19 @@ module _ (g : Given) (triples : List (List ℤ)) (moves : List Move) (w : List �
   fixed_curves : vector_along moves w ≡ w → IsFixed (path_map moves) (words_of runs)
   fixed_curves same = laws.curves runs runs d (subst (λ (v : List ℕ). IsDrawing triples v runs) (sym same) d)
 
-flipped_triangulation : Given → (before target : List (List ℤ)) (e a b c d : ℤ) → IsTriangulation before → IsFlip before target e a b c d → IsTriangulation target
+flipped_triangulation : Given → (before target : List (List ℤ)) (e a b c d : ℤ) → IsTriangulation before
+    → IsFlip before target e a b c d → IsTriangulation target
 flipped_triangulation g before target e a b c d p h =
     subst IsTriangulation (sym h.result) (g.flips.flips before e p h.label h.flippable).triangulation
 
 number_laws : Given → NumberLaws
 number_laws g = record {
-  enough = λ before target e a b c d w p h m. enough g before target e a b c d p (flipped_triangulation g before target e a b c d p h) h w m;
-  enough_back = λ before target e a b c d w p h m. enough_back g before target e a b c d p (flipped_triangulation g before target e a b c d p h) h w m;
+  enough =
+      λ before target e a b c d w p h m. enough g before target e a b c d p
+      (flipped_triangulation g before target e a b c d p h) h w m;
+  enough_back =
+      λ before target e a b c d w p h m. enough_back g before target e a b c d p
+      (flipped_triangulation g before target e a b c d p h) h w m;
   moved = λ before target images w x h l. weight-image before target images w h x l;
 }
 
@@ -51,6 +58,8 @@ vector_laws g = record {
   next = vector_along-next;
   moves = moved_laws g;
   paths = along_laws g;
-  fixed = λ triples moves w runs p h m d. (fixed_vector g triples moves w runs p h m d, fixed_curves g triples moves w runs p h m d);
+  fixed =
+      λ triples moves w runs p h m d.
+      (fixed_vector g triples moves w runs p h m d, fixed_curves g triples moves w runs p h m d);
   overflow = λ before target moves w bound p h m small. overflow_laws g before target moves w bound p h m small;
 }

@@ -1,16 +1,17 @@
 -- The vector after a flip is a multicurve's.
 --
--- With the numbers E, A, B, C, D of the edge and of the sides of (e,a,b) and (f,c,d), which are sums of corners, and F for
--- max (A + C) (B + D) - E, the numbers F, D, A have an even sum, and none is greater than the sum of the other two; so
--- have F, B, C. So in (e,d,a) and (f,b,c) each side is the sum of the corners at its ends. The other triangles and
--- numbers are the same. The mirror image of this serves the backward flip.
+-- With the numbers E, A, B, C, D of the edge and of the sides of (e,a,b) and (f,c,d), which are sums of corners, and
+-- F for max (A + C) (B + D) - E, the numbers F, D, A have an even sum, and none is greater than the sum of the other
+-- two; so have F, B, C. So in (e,d,a) and (f,b,c) each side is the sum of the corners at its ends. The other
+-- triangles and numbers are the same. The mirror image of this serves the backward flip.
 use Rattle.std.proofs.Common.{ℕ, ℤ, List, ◌≡◌, ◌≢◌, ◌≤◌, ◌<◌, ◌+◌, ◌-◌, ◌/◌, max, sym, ◌∙◌, ap, subst, arith}
 use Rattle.ideal_tri.specs.Labels.{edge_of}
 use Rattle.ideal_tri.specs.SurfaceLaws.{TriangleLaws}
 use Rattle.ideal_tri.specs.Triangulations.{IsLabel, edge_count, next, previous}
 use Rattle.ideal_tri.specs.Vectors.{weight, corner_count}
 use Rattle.tri_atlas.proofs.Vectors.Turns.{HasCornerSums, same_number}
-use Rattle.tri_atlas.proofs.Vectors.Quadrilaterals.{Quadrilateral, turned, Sums, sums_of, IsApartFrom, next_apart, apart_off}
+use Rattle.tri_atlas.proofs.Vectors.Quadrilaterals.{Quadrilateral, turned, Sums, sums_of, IsApartFrom, next_apart}
+use Rattle.tri_atlas.proofs.Vectors.Quadrilaterals.{apart_off}
 use Rattle.tri_atlas.proofs.Vectors.Quadrilaterals.{Place, at_e, at_a, at_b, at_f, at_c, at_d, apart, place_of}
 use Rattle.tri_atlas.proofs.Vectors.Apart.{apart_previous, apart_corner}
 
@@ -106,7 +107,8 @@ sums_moved here there w v e f a b c d a' b' c' d' laws s t turn edges others num
         numbers x (apart_off here e f a b c d laws s x q)
         ∙ h.sums x l
         ∙ sym (ap (λ (n : ℕ). n + corner_count there v (previous there x)) (corner x l q)
-        ∙ ap (λ (u : ℤ). corner_count here w x + corner_count there v u) (apart_previous here there w v e f a b c d laws s others numbers x l q)
+        ∙ ap (λ (u : ℤ). corner_count here w x + corner_count there v u)
+        (apart_previous here there w v e f a b c d laws s others numbers x l q)
         ∙ ap (λ (n : ℕ). corner_count here w x + n) (corner (previous here x) lz z_away))
       where
         corner : (y : ℤ) → IsLabel here y → IsApartFrom e f a b c d y → corner_count there v y ≡ corner_count here w y

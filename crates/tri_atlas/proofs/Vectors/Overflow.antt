@@ -1,8 +1,11 @@
 -- Along a path the image of a vector first reaches a bound where the new number of a flip does.
 --
--- The image under the map of the first k moves is the vector after them, and entries change at flips alone. So as long as
--- no new number has reached the bound, all entries are below it; and the first one that does stands alone.
-use Rattle.std.proofs.Common.{ℕ, zero, suc, ℤ, List, [], ◌∷◌, ◌≡◌, ◌≤◌, ◌<◌, inl, inr, refl, sym, ◌∙◌, ap, subst, arith, length, take}
+-- The image under the map of the first k moves is the vector after them, and entries change at flips alone. So as
+-- long as no new number has reached the bound, all entries are below it, and the first one that does stands alone.
+-- Conversely, where the image reaches the bound first behind a flip, no new number has reached it before, by
+-- induction on the moves; so the number of that flip does.
+use Rattle.std.proofs.Common.{ℕ, zero, suc, ℤ, List, [], ◌∷◌, ◌≡◌, ◌≤◌, ◌<◌, inl, inr, sym, ◌∙◌, ap, subst, arith}
+use Rattle.std.proofs.Common.{length, take}
 use Rattle.std.specs.Prelude.{slice_index}
 use Rattle.std.proofs.lemmas.Bool.{cases_eq, cases_lt}
 use Rattle.std.proofs.lemmas.List.Elements.{All-get_or}
@@ -10,49 +13,18 @@ use Rattle.ideal_tri.specs.Drawings.{draw}
 use Rattle.ideal_tri.specs.Triangulations.{IsTriangulation, edge_count}
 use Rattle.ideal_tri.specs.Vectors.{IsMulticurve}
 use Rattle.ideal_tri.specs.Strands.{IsDrawing}
-use Rattle.tri_atlas.specs.Moves.{Move, IsMove, ArePath}
+use Rattle.tri_atlas.specs.Moves.{Move, ArePath}
 use Rattle.tri_atlas.specs.Maps.{path_map}
-use Rattle.tri_atlas.specs.MovedVectors.{vector_after, vector_along, move_at, flipped_edge, new_number, IsOver, IsFirstOver, ImageReaches, OverflowsAt}
+use Rattle.tri_atlas.specs.MovedVectors.{vector_after, vector_along, move_at, flipped_edge, new_number, IsOver}
+use Rattle.tri_atlas.specs.MovedVectors.{IsFirstOver, ImageReaches, OverflowsAt}
 use Rattle.tri_atlas.specs.VectorLaws.{OverflowLaws}
 use Rattle.tri_atlas.proofs.Vectors.Given.{Given}
 use Rattle.tri_atlas.proofs.Vectors.Along.{along_laws, path_edges, multicurve_along}
+use Rattle.tri_atlas.proofs.Vectors.Beginnings.{vector_along-next, Beginning, beginning, MoveOf, move_of}
 use Rattle.tri_atlas.proofs.Vectors.Entries.{Below, length-after, below-after, entry-flipped, entry-other}
 
--- ---- the beginnings of a path
-
-pub vector_along-next : (moves : List Move) (k : ℕ) (w : List ℕ) → k < length moves
-    → vector_along (take (suc k) moves) w ≡ vector_after (move_at moves k) (vector_along (take k moves) w)
-vector_along-next [] k w b = absurd (omega arith)
-vector_along-next (m ∷ moves) zero w b = refl
-vector_along-next (m ∷ moves) (suc k) w b = vector_along-next moves k (vector_after m w) (omega arith)
-
--- the first moves of a path
-pub record Beginning (before : List (List ℤ)) (moves : List Move) (k : ℕ) : Type 0 where
-  pub middle : List (List ℤ)
-  pub path : ArePath before (take k moves) middle
-
-beginning : (before target : List (List ℤ)) (moves : List Move) (k : ℕ) → ArePath before moves target → Beginning before moves k
-beginning before target moves zero h = record { middle = before; path = refl }
-beginning before target [] (suc k) h = record { middle = before; path = refl }
-beginning before target (m ∷ moves) (suc k) (between, b, move, rest) =
-    let more : Beginning between moves k = beginning between target moves k rest in
-    record { middle = more.middle; path = (between, b, move, more.path) }
-
--- the move behind them
-record MoveOf (before : List (List ℤ)) (moves : List Move) (k : ℕ) : Type 0 where
-  from : List (List ℤ)
-  to : List (List ℤ)
-  path : ArePath before (take k moves) from
-  move : IsMove from to (move_at moves k)
-
-move_of : (before target : List (List ℤ)) (moves : List Move) (k : ℕ) → ArePath before moves target → k < length moves → MoveOf before moves k
-move_of before target [] k h b = absurd (omega arith)
-move_of before target (m ∷ moves) zero (between, t, move, rest) b = record { from = before; to = between; path = refl; move = move }
-move_of before target (m ∷ moves) (suc k) (between, t, move, rest) b =
-    let more : MoveOf between moves k = move_of between target moves k rest (omega arith) in
-    record { from = more.from; to = more.to; path = (between, t, move, more.path); move = more.move }
-
-module _ (g : Given) (before target : List (List ℤ)) (moves : List Move) (w : List ℕ) (bound : ℕ) (p : IsTriangulation before)
+module _ (g : Given) (before target : List (List ℤ)) (moves : List Move) (w : List ℕ) (bound : ℕ)
+    (p : IsTriangulation before)
     (h : ArePath before moves target) (m : IsMulticurve before w) (small : Below bound w) where
   -- the vector after the first k moves
   abbrev vector : ℕ → List ℕ
@@ -61,20 +33,24 @@ module _ (g : Given) (before target : List (List ℤ)) (moves : List Move) (w : 
   long : (k : ℕ) → length (vector_along (take k moves) w) ≡ edge_count before
   long k =
       let b : Beginning before moves k = beginning before target moves k h in
-      (multicurve_along g before b.middle (take k moves) w p b.path m).one_per_edge ∙ path_edges before b.middle (take k moves) b.path
+      (multicurve_along g before b.middle (take k moves) w p b.path m).one_per_edge
+      ∙ path_edges before b.middle (take k moves) b.path
 
   -- the image reaches the bound where an entry does
-  reaches_entry : (k : ℕ) → ImageReaches bound before w (path_map (take k moves)) → (Below bound (vector_along (take k moves) w) → ⊥)
+  reaches_entry : (k : ℕ) → ImageReaches bound before w (path_map (take k moves))
+      → (Below bound (vector_along (take k moves) w) → ⊥)
   reaches_entry k r below =
       let b : Beginning before moves k = beginning before target moves k h in
       let laws = along_laws g before b.middle (take k moves) w p b.path m in
       let same = laws.image.counts r.runs r.drawing r.edge r.is_edge in
       let less : slice_index (vector_along (take k moves) w) r.edge < bound =
-      All-get_or (λ n. n < bound) (vector_along (take k moves) w) r.edge 0 (subst (λ (n : ℕ). r.edge < n) (sym (long k)) r.is_edge) below in
+      All-get_or (λ n. n < bound) (vector_along (take k moves) w) r.edge 0
+      (subst (λ (n : ℕ). r.edge < n) (sym (long k)) r.is_edge) below in
       let more = r.reaches in
       omega arith
 
-  entry_reaches : (k e : ℕ) → e < edge_count before → bound ≤ slice_index (vector_along (take k moves) w) e → ImageReaches bound before w (path_map (take k moves))
+  entry_reaches : (k e : ℕ) → e < edge_count before → bound ≤ slice_index (vector_along (take k moves) w) e
+      → ImageReaches bound before w (path_map (take k moves))
   entry_reaches k e l more =
       let b : Beginning before moves k = beginning before target moves k h in
       let laws = along_laws g before b.middle (take k moves) w p b.path m in
@@ -94,8 +70,10 @@ module _ (g : Given) (before target : List (List ℤ)) (moves : List Move) (w : 
       → Below bound (vector_along (take k moves) w)
   all_below k under = go before moves w k h m.one_per_edge small under
     where
-      go : (from : List (List ℤ)) (ms : List Move) (u : List ℕ) (k : ℕ) → ArePath from ms target → length u ≡ edge_count from → Below bound u
-          → ((j : ℕ) → j < k → IsOver bound (move_at ms j) (vector_along (take j ms) u) → ⊥) → Below bound (vector_along (take k ms) u)
+      go : (from : List (List ℤ)) (ms : List Move) (u : List ℕ) (k : ℕ) → ArePath from ms target
+          → length u ≡ edge_count from → Below bound u
+          → ((j : ℕ) → j < k → IsOver bound (move_at ms j) (vector_along (take j ms) u) → ⊥)
+          → Below bound (vector_along (take k ms) u)
       go from ms u zero path l all under = all
       go from [] u (suc k) path l all under = all
       go from (x ∷ ms) u (suc k) (between, t, move, rest) l all under =
@@ -106,19 +84,23 @@ module _ (g : Given) (before target : List (List ℤ)) (moves : List Move) (w : 
   -- the first new number that does
   first_entry : (k : ℕ) → IsFirstOver bound w moves k
       → (flipped_edge (move_at moves k) < edge_count before)
-      × (slice_index (vector_along (take (suc k) moves) w) (flipped_edge (move_at moves k)) ≡ new_number (move_at moves k) (vector_along (take k moves) w))
+      × (slice_index (vector_along (take (suc k) moves) w) (flipped_edge (move_at moves k)) ≡ new_number
+      (move_at moves k) (vector_along (take k moves) w))
   first_entry k o =
       let s : MoveOf before moves k = move_of before target moves k h o.within in
-      let l : length (vector_along (take k moves) w) ≡ edge_count s.from = long k ∙ sym (path_edges before s.from (take k moves) s.path) in
+      let l : length (vector_along (take k moves) w) ≡ edge_count s.from = long k
+      ∙ sym (path_edges before s.from (take k moves) s.path) in
       let there = entry-flipped s.from s.to (move_at moves k) (vector_along (take k moves) w) s.move l o.over.0 in (
         subst (λ (n : ℕ). flipped_edge (move_at moves k) < n) (long k) there.0,
-        ap (λ (u : List ℕ). slice_index u (flipped_edge (move_at moves k))) (vector_along-next moves k w o.within) ∙ there.1,
+        ap (λ (u : List ℕ). slice_index u (flipped_edge (move_at moves k))) (vector_along-next moves k w o.within)
+            ∙ there.1,
       )
 
   first_reaches : (k : ℕ) → IsFirstOver bound w moves k → ImageReaches bound before w (path_map (take (suc k) moves))
   first_reaches k o =
       let there = first_entry k o in
-      entry_reaches (suc k) (flipped_edge (move_at moves k)) there.0 (subst (λ (n : ℕ). bound ≤ n) (sym there.1) o.over.1)
+      entry_reaches (suc k) (flipped_edge (move_at moves k)) there.0
+      (subst (λ (n : ℕ). bound ≤ n) (sym there.1) o.over.1)
 
   overflows : (k : ℕ) → IsFirstOver bound w moves k → OverflowsAt bound before w moves k
   overflows k o = record {
@@ -171,17 +153,20 @@ module _ (g : Given) (before target : List (List ℤ)) (moves : List Move) (w : 
           ]
 
   -- no other entry reaches the bound then
-  only_there : (k e : ℕ) → IsFirstOver bound w moves k → e < length w → bound ≤ slice_index (vector_along (take (suc k) moves) w) e
+  only_there : (k e : ℕ) → IsFirstOver bound w moves k → e < length w
+      → bound ≤ slice_index (vector_along (take (suc k) moves) w) e
       → e ≡ flipped_edge (move_at moves k)
   only_there k e o l more =
       elim (cases_eq e (flipped_edge (move_at moves k))) [
         | inl same ↦ same
         | inr other ↦
-            (let stays : slice_index (vector_along (take (suc k) moves) w) e ≡ slice_index (vector_along (take k moves) w) e =
+            (let stays : slice_index (vector_along (take (suc k) moves) w) e ≡ slice_index
+            (vector_along (take k moves) w) e =
             ap (λ (u : List ℕ). slice_index u e) (vector_along-next moves k w o.within)
             ∙ entry-other (move_at moves k) (vector_along (take k moves) w) e o.over.0 other in
             let less : slice_index (vector_along (take k moves) w) e < bound =
-            All-get_or (λ n. n < bound) (vector_along (take k moves) w) e 0 (omega (arith, long k, m.one_per_edge)) (all_below k o.first) in
+            All-get_or (λ n. n < bound) (vector_along (take k moves) w) e 0 (omega (arith, long k, m.one_per_edge))
+            (all_below k o.first) in
             absurd (omega arith))
       ]
 

@@ -1,6 +1,8 @@
--- Two triangulations that differ by a flip, with vectors that differ at the flipped edge: (e,a,b) and (f,c,d) here,
--- (e,d,a) and (f,b,c) there, and all other triangles and numbers the same. The two numbers of the edge make up the
--- greater sum of opposite sides. What holds of a pair holds of it seen from the other label of the edge.
+-- Two triangulations that differ by a flip, with vectors that differ at the flipped edge.
+--
+-- There are (e,a,b) and (f,c,d) here, (e,d,a) and (f,b,c) there, and all other triangles and numbers are the same. The
+-- two numbers of the edge make up the greater sum of opposite sides. What holds of a pair holds of it seen from the
+-- other label of the edge. The sums of corners on both sides are all that the rows need.
 use Rattle.std.proofs.Common.{ℕ, ℤ, List, ◌≡◌, ◌≢◌, ◌+◌, max, sym, ◌∙◌, arith}
 use Rattle.ideal_tri.specs.Labels.{edge_of}
 use Rattle.ideal_tri.specs.SurfaceLaws.{TriangleLaws}
@@ -21,7 +23,8 @@ pub record IsFlippedPair (here there : List (List ℤ)) (w v : List ℕ) (e f a 
   pub numbers : (x : ℤ) → edge_of x ≢ edge_of e → weight v x ≡ weight w x
   pub sum : weight w e + weight v e ≡ max (weight w a + weight w c) (weight w b + weight w d)
 
-pub pair_turned : (here there : List (List ℤ)) (w v : List ℕ) (e f a b c d : ℤ) → IsFlippedPair here there w v e f a b c d
+pub pair_turned : (here there : List (List ℤ)) (w v : List ℕ) (e f a b c d : ℤ)
+    → IsFlippedPair here there w v e f a b c d
     → IsFlippedPair here there w v f e c d a b
 pair_turned here there w v e f a b c d h = record {
   corners_here = h.corners_here;

@@ -1,9 +1,9 @@
--- Off the flipped edge a strand goes from state to state as before, and the letters of the edge that it crosses between
--- two such states change as the map of the flip says.
+-- Off the flipped edge a strand goes from state to state as before, and the letters of the edge that it crosses
+-- between two such states change as the map of the flip says.
 --
--- A strand that leaves its edge into one of the two triangles does so by one of the sides a, b, c, d, and the rows say
--- where it comes out: for a and b as they stand, for c and d seen from the other label of the edge. A strand that goes
--- into another triangle takes the same step, and crosses no letter of the edge.
+-- A strand that leaves its edge into one of the two triangles does so by one of the sides a, b, c, d, and the rows
+-- say where it comes out: for a and b as they stand, for c and d seen from the other label of the edge. A strand that
+-- goes into another triangle takes the same step, and crosses no letter of the edge.
 use Rattle.std.proofs.Common.{ℕ, ℤ, false, List, [], ◌≡◌, ◌≢◌, ◌-◌, refl, sym, ◌∙◌, ap, subst, ne_eqb}
 use Rattle.ideal_tri.specs.Labels.{inverse, edge_of}
 use Rattle.ideal_tri.specs.Triangulations.{IsLabel, next}
@@ -20,8 +20,8 @@ use Rattle.tri_atlas.proofs.Vectors.Exits.{is_on, past, crossed, past-off, cross
 use Rattle.tri_atlas.proofs.Vectors.Rows.{Prefixes, Prefixes-turned, Agrees, agrees, from_a, from_b}
 use Rattle.tri_atlas.proofs.Vectors.Pairs.{IsFlippedPair, pair_turned, numbers_of, balanced}
 
--- from q the states off edge n before and after it agree, and so do the letters of the edge between, where q goes into the
--- triangle of x
+-- from q the states off edge n before and after it agree, and so do the letters of the edge between, where q goes
+-- into the triangle of x
 abbrev pub Passes : List (List ℤ) → List (List ℤ) → List ℕ → List ℕ → ℕ → (ℤ → List ℤ) → State → ℤ → Type 0
 Passes here there w v n pre q x =
     Agrees pre x (past here w n (strand_step here w q)) (crossed n (strand_step here w q))
@@ -42,7 +42,8 @@ module _ (here there : List (List ℤ)) (w v : List ℕ) (e f a b c d : ℤ) (h 
   passes_at_a : inverse q.label ≡ a → Passes here there w v (edge_of e) pre q a
   unfolding far
   passes_at_a at =
-      from_a pre e f a b c d (numbers_of here there w v e f a b c d) (balanced here there w v e f a b c d h) h.sides_here.f_is p far
+      from_a pre e f a b c d (numbers_of here there w v e f a b c d)
+      (balanced here there w v e f a b c d h) h.sides_here.f_is p far
       (past here w n (strand_step here w q)) (past there v n (strand_step there v q))
       (crossed n (strand_step here w q)) (crossed n (strand_step there v q))
       (exits_first here w e f a b c d h.corners_here h.sides_here q far at (far_place here w q s ∙ number a at))
@@ -52,7 +53,8 @@ module _ (here there : List (List ℤ)) (w v : List ℕ) (e f a b c d : ℤ) (h 
   passes_at_b : inverse q.label ≡ b → Passes here there w v (edge_of e) pre q b
   unfolding far
   passes_at_b at =
-      from_b pre e f a b c d (numbers_of here there w v e f a b c d) (balanced here there w v e f a b c d h) h.sides_here.f_is p far
+      from_b pre e f a b c d (numbers_of here there w v e f a b c d)
+      (balanced here there w v e f a b c d h) h.sides_here.f_is p far
       (past here w n (strand_step here w q)) (past there v n (strand_step there v q))
       (crossed n (strand_step here w q)) (crossed n (strand_step there v q))
       (exits_second here w e f a b c d h.corners_here h.sides_here q far at (far_place here w q s ∙ number b at))
@@ -63,7 +65,8 @@ module _ (here there : List (List ℤ)) (w v : List ℕ) (e f a b c d : ℤ) (h 
       (exits_first there v f e b c d a h.corners_there (turned there e f d a b c h.sides_there) q far at
       (far_place here w q s ∙ number b at ∙ sym (h.numbers b h.sides_here.off_b))))
 
-  passes_apart : ((x : ℤ) → x ≢ b → x ≢ d → pre x ≡ []) → edge_of q.label ≢ edge_of e → IsApartFrom e f a b c d (inverse q.label)
+  passes_apart : ((x : ℤ) → x ≢ b → x ≢ d → pre x ≡ []) → edge_of q.label ≢ edge_of e
+      → IsApartFrom e f a b c d (inverse q.label)
       → Passes here there w v (edge_of e) pre q (inverse q.label)
   passes_apart plain off away =
       agrees pre x r.label (past here w n r) (past there v n r') (crossed n r) (crossed n r') [] [] [] []

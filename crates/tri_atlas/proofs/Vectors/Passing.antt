@@ -1,9 +1,10 @@
 -- Flips and backward flips have the properties by which runs are carried.
 --
--- For a flip these are the steps of strands, and what it puts before the letters of the sides. For the backward flip the
--- triangulations change their roles, and the inverse word is put before each letter: where the way back along u, then v
--- and z reduce to v', the word u, then v' and the way back along z reduce to v, which is one letter at most.
-use Rattle.std.proofs.Common.{ℕ, ℤ, true, false, List, [], ◌∷◌, ◌++◌, ◌≡◌, ◌≢◌, ◌<◌, inl, inr, refl, sym, ◌∙◌, ap, subst}
+-- For a flip these are the steps of strands, and what it puts before the letters of the sides. For the backward flip
+-- the triangulations change their roles, and the inverse word is put before each letter: where the way back along u,
+-- then v and z reduce to v', the word u, then v' and the way back along z reduce to v, which is one letter at most.
+use Rattle.std.proofs.Common.{ℕ, ℤ, true, false, List, [], ◌∷◌, ◌++◌, ◌≡◌, ◌≢◌, ◌<◌, inl, inr, refl, sym, ◌∙◌, ap}
+use Rattle.std.proofs.Common.{subst}
 use Rattle.std.proofs.Common.{append_assoc, ne_eqb}
 use Rattle.std.proofs.lemmas.Bool.{cases_Bool, eqb-true}
 use Rattle.std.proofs.lemmas.List.{append-nil}
@@ -50,11 +51,16 @@ step_off triples w e f a b c d s q on =
     ])
 
 -- what a flip puts before the letters of the sides
-flip_prefixes : (triples : List (List ℤ)) (e f a b c d : ℤ) → TriangleLaws triples → Quadrilateral triples e f a b c d → Prefixes (step_before e b d) e f a b c d
+flip_prefixes : (triples : List (List ℤ)) (e f a b c d : ℤ) → TriangleLaws triples → Quadrilateral triples e f a b c d
+    → Prefixes (step_before e b d) e f a b c d
 flip_prefixes triples e f a b c d t s = record {
-  at_a = step_before-other e b d a a_not_b (λ k. s.off_b (ap edge_of (sym s.after_a ∙ ap (next triples) k ∙ s.after_d) ∙ one_edge e f s.f_is));
+  at_a =
+      step_before-other e b d a a_not_b
+      (λ k. s.off_b (ap edge_of (sym s.after_a ∙ ap (next triples) k ∙ s.after_d) ∙ one_edge e f s.f_is));
   at_b = step_before-b e b d b refl;
-  at_c = step_before-other e b d c (λ k. s.off_d (ap edge_of (sym s.after_c ∙ ap (next triples) k ∙ s.after_b) ∙ sym (one_edge e f s.f_is))) c_not_d;
+  at_c =
+      step_before-other e b d c
+      (λ k. s.off_d (ap edge_of (sym s.after_c ∙ ap (next triples) k ∙ s.after_b) ∙ sym (one_edge e f s.f_is))) c_not_d;
   at_d = step_before-d e b d d d_not_b refl ∙ ap (λ (x : ℤ). x ∷ []) (sym s.f_is);
 }
   where
@@ -94,7 +100,8 @@ flip_passing here there w v e f a b c d laws laws' m k h = record {
 
 -- ---- backwards
 
-module _ (laws : ReductionLaws) (here there : List (List ℤ)) (w v : List ℕ) (n : ℕ) (pre back : ℤ → List ℤ) (h : IsPassing here there w v n pre)
+module _ (laws : ReductionLaws) (here there : List (List ℤ)) (w v : List ℕ) (n : ℕ) (pre back : ℤ → List ℤ)
+    (h : IsPassing here there w v n pre)
     (back_is : (x : ℤ) → back x ≡ inverse_word (pre x)) where
   -- at most one letter is crossed, so there is nothing to reduce
   crossed-reduced : (q : State) → reduce (crossed n q) ≡ crossed n q
@@ -108,7 +115,8 @@ module _ (laws : ReductionLaws) (here there : List (List ℤ)) (w v : List ℕ) 
   solve : (P u v z : List ℤ) → reduce (inverse_word P ++ (v ++ z)) ≡ u → reduce (P ++ (u ++ inverse_word z)) ≡ reduce v
   solve P u v z is =
       reduce-right laws P (u ++ inverse_word z) ((inverse_word P ++ (v ++ z)) ++ inverse_word z)
-      (reduce-left laws u (inverse_word P ++ (v ++ z)) (inverse_word z) (ap reduce (sym is) ∙ reduce-reduce laws (inverse_word P ++ (v ++ z))))
+      (reduce-left laws u (inverse_word P ++ (v ++ z)) (inverse_word z)
+      (ap reduce (sym is) ∙ reduce-reduce laws (inverse_word P ++ (v ++ z))))
       ∙ ap (λ (r : List ℤ). reduce (P ++ r)) (append_assoc (inverse_word P) (v ++ z) (inverse_word z))
       ∙ laws.cancel [] P ((v ++ z) ++ inverse_word z)
       ∙ ap reduce (append_assoc v z (inverse_word z))
@@ -120,8 +128,10 @@ module _ (laws : ReductionLaws) (here there : List (List ℤ)) (w v : List ℕ) 
   passes_back q off s = record {
     same = sym agree.same;
     word =
-        ap (λ (r : List ℤ). reduce (r ++ (others ++ back Y.label))) (ap inverse_word (back_is x) ∙ inverse_word-inverse_word (pre x))
-        ∙ ap (λ (r : List ℤ). reduce (pre x ++ (others ++ r))) (back_is Y.label ∙ ap (λ (t : State). inverse_word (pre t.label)) (sym agree.same))
+        ap (λ (r : List ℤ). reduce (r ++ (others ++ back Y.label)))
+        (ap inverse_word (back_is x) ∙ inverse_word-inverse_word (pre x))
+        ∙ ap (λ (r : List ℤ). reduce (pre x ++ (others ++ r)))
+        (back_is Y.label ∙ ap (λ (t : State). inverse_word (pre t.label)) (sym agree.same))
         ∙ solve (pre x) others letters (pre X.label) agree.word
         ∙ crossed-reduced (strand_step here w q);
   }

@@ -1,8 +1,8 @@
 -- The two triangles at an edge, and the labels apart from them.
 --
--- The triangles are (e,a,b) and (f,c,d), where e and f are the two labels of the edge. All that is said of them is said
--- again of (f,c,d) and (e,a,b), so a proof for one triangle serves both. The sides a, b, c, d may be glued to each other;
--- none is glued to the edge.
+-- The triangles are (e,a,b) and (f,c,d), where e and f are the two labels of the edge. All that is said of them is
+-- said again of (f,c,d) and (e,a,b), so a proof for one triangle serves both. The sides a, b, c, d may be glued to
+-- each other; none is glued to the edge.
 use Rattle.std.proofs.Common.{ℕ, ℤ, List, ◌≡◌, ◌≢◌, ◌+◌, inl, inr, sym, ◌∙◌, ap}
 use Rattle.ideal_tri.specs.Labels.{inverse, edge_of}
 use Rattle.ideal_tri.specs.SurfaceLaws.{TriangleLaws}
@@ -131,7 +131,8 @@ place_of e f a b c d x =
     ]
 
 -- the other triangles have no such side
-module _ (triples : List (List ℤ)) (e f a b c d : ℤ) (t : TriangleLaws triples) (s : Quadrilateral triples e f a b c d) where
+module _ (triples : List (List ℤ)) (e f a b c d : ℤ) (t : TriangleLaws triples)
+    (s : Quadrilateral triples e f a b c d) where
   twice_before : (x y : ℤ) → IsLabel triples x → next triples x ≡ y → x ≡ next triples (next triples y)
   twice_before x y l is = sym (t.round x l) ∙ ap (λ (z : ℤ). next triples (next triples z)) is
 

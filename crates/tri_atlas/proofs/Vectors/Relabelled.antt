@@ -1,7 +1,8 @@
 -- A relabelling moves the numbers of a vector, its corners, and the steps of its strands.
 --
--- The number of a label is that of its image after the move, and the images of the sides of a triangle follow each other.
--- So corners have the counts of their images, and a step of a strand is carried to a step, with the same places.
+-- The number of a label is that of its image after the move, and the images of the sides of a triangle follow each
+-- other. So corners have the counts of their images, and a step of a strand is carried to a step, with the same
+-- places.
 use Rattle.std.proofs.Common.{ℕ, ℤ, pos, Bool, true, false, cond, leb, List, ◌≡◌, ◌<◌, ◌+◌, ◌-◌, ◌/◌, refl, sym, ◌∙◌}
 use Rattle.std.proofs.Common.{ap, subst, length, map}
 use Rattle.std.specs.Prelude.{slice_index}
@@ -30,7 +31,8 @@ weight-moved w images y below =
     ∙ ap (slice_index w) (sym (edge_of-image_of (inverse_images images) y))
 
 module _ (before target : List (List ℤ)) (images : List ℤ) (w : List ℕ) (h : IsRelabelling before target images) where
-  pub weight-image : (x : ℤ) → IsLabel before x → weight (map (weight w) (inverse_images images)) (image_of images x) ≡ weight w x
+  pub weight-image : (x : ℤ) → IsLabel before x
+      → weight (map (weight w) (inverse_images images)) (image_of images x) ≡ weight w x
   weight-image x l =
       weight-moved w images (image_of images x)
       (subst (λ (n : ℕ). edge_of (image_of images x) < n) (sym (h.one_per_edge ∙ same_edges before target images h))
@@ -50,7 +52,8 @@ pub record HasOrigin (before : List (List ℤ)) (images : List ℤ) (y : ℤ) : 
   pub label : IsLabel before origin
   pub is : image_of images origin ≡ y
 
-pub origin : (before target : List (List ℤ)) (images : List ℤ) (y : ℤ) → IsRelabelling before target images → IsLabel target y
+pub origin : (before target : List (List ℤ)) (images : List ℤ) (y : ℤ) → IsRelabelling before target images
+    → IsLabel target y
     → HasOrigin before images y
 origin before target images y h l = record {
   origin = origin_of images y;
@@ -115,17 +118,23 @@ module _ (g : Given) (before target : List (List ℤ)) (images : List ℤ) (p : 
           ∙ k.sums x l
           ∙ sym (ap (λ (n : ℕ). n + corner_count target moved_vector (previous target (im x))) (corner x l)
           ∙ ap (λ (u : ℤ). corner_count before w x + corner_count target moved_vector u) (follow_back x l)
-          ∙ ap (λ (n : ℕ). corner_count before w x + n) (corner (previous before x) (next_label (next before x) (next_label x l))))
+          ∙ ap (λ (n : ℕ). corner_count before w x + n)
+          (corner (previous before x) (next_label (next before x) (next_label x l))))
+
+      v : List ℕ
+      v = moved_vector
 
       from : (y : ℤ) → HasOrigin before images y
-          → weight moved_vector y ≡ corner_count target moved_vector y + corner_count target moved_vector (previous target y)
+          → weight moved_vector y
+          ≡ corner_count target moved_vector y + corner_count target moved_vector (previous target y)
       from y o =
-          subst (λ (u : ℤ). weight moved_vector u ≡ corner_count target moved_vector u + corner_count target moved_vector (previous target u))
+          subst (λ (u : ℤ). weight v u ≡ corner_count target v u + corner_count target v (previous target u))
           o.is (sum o.origin o.label)
 
   pub relabel_multicurve : IsMulticurve before w → IsMulticurve target moved_vector
   relabel_multicurve m =
-      multicurve_of_sums g target moved_vector t (length-moved before target images w h) (sums (sums_of_multicurve g before w p m))
+      multicurve_of_sums g target moved_vector t (length-moved before target images w h)
+      (sums (sums_of_multicurve g before w p m))
 
   -- ---- strands
 
@@ -134,7 +143,8 @@ module _ (g : Given) (before target : List (List ℤ)) (images : List ℤ) (p : 
   moved_state q = state_at (image_of images q.label) q.place
 
   either_state : (b : Bool) (y z : ℤ) (i j : ℕ)
-      → cond b (state_at (image_of images y) i) (state_at (image_of images z) j) ≡ moved_state (cond b (state_at y i) (state_at z j))
+      → cond b (state_at (image_of images y) i) (state_at (image_of images z) j)
+      ≡ moved_state (cond b (state_at y i) (state_at z j))
   either_state true y z i j = refl
   either_state false y z i j = refl
 

@@ -1,14 +1,15 @@
--- Before and after a flip a strand leaves the quadrilateral at one state, and the letters crossed on the way differ as the
--- homotopy of the quadrilateral says.
+-- Before and after a flip a strand leaves the quadrilateral at one state, and the letters crossed on the way differ
+-- as the homotopy of the quadrilateral says.
 --
--- With k and l for the strands at corners before and after the flip, a strand that enters through place i of the side a
--- of (e,a,b) and (f,c,d) goes
+-- With k and l for the strands at corners before and after the flip, a strand that enters through place i of the side
+-- a of (e,a,b) and (f,c,d) goes
 --
 --     before: i >= k e to b; else through e, and i >= k d to c, else to d
---     after, in (e,d,a) and (f,b,c): i < l d to d; else through e to place j with j + A = i + F, and j >= l c to b, else to c
+--     after, in (e,d,a) and (f,b,c): i < l d to d; else through e to the place j with j + A = i + F,
+--     and j >= l c to b, else to c
 --
--- Each pair of lines that can hold together ends at one side and place, by the corner sums and E + F = max (A + C) (B + D).
--- The side b has a table like this, and the other two sides are those of the other label of the edge.
+-- Each pair of lines that can hold together ends at one side and place, by the corner sums and the greater
+-- sum: E + F = max (A + C) (B + D). The side b has a table like this, and the other two sides are those of the other label of the edge.
 use Rattle.std.proofs.Common.{ℕ, ℤ, Bool, List, [], ◌∷◌, ◌++◌, ◌≡◌, ◌+◌, max, refl, sym, ◌∙◌, ap, arith, cond}
 use Rattle.ideal_tri.specs.Labels.{inverse}
 use Rattle.ideal_tri.specs.Words.{inverse_word, push, reduce}
@@ -77,14 +78,16 @@ pub record Prefixes (pre : ℤ → List ℤ) (e f a b c d : ℤ) : Type 0 where
 pub Prefixes-turned : (pre : ℤ → List ℤ) (e f a b c d : ℤ) → Prefixes pre e f a b c d → Prefixes pre f e c d a b
 Prefixes-turned pre e f a b c d h = record { at_a = h.at_c; at_b = h.at_d; at_c = h.at_a; at_d = h.at_b }
 
--- a strand from the side x leaves at one state before and after, with letters of the edge that differ by what is put before
--- the letters of these two sides
+-- a strand from the side x leaves at one state before and after, with letters of the edge that differ by what is put
+-- before the letters of these two sides
 pub record Agrees (pre : ℤ → List ℤ) (x : ℤ) (X : State) (letters : List ℤ) (Y : State) (others : List ℤ) : Type 0 where
   pub same : X ≡ Y
   pub word : reduce (inverse_word (pre x) ++ (letters ++ pre X.label)) ≡ others
 
-pub agrees : (pre : ℤ → List ℤ) (x z : ℤ) (X Y : State) (letters others u v s t : List ℤ) → X.label ≡ z → Y.label ≡ z → X.place ≡ Y.place
-    → pre x ≡ u → letters ≡ v → pre z ≡ s → others ≡ t → reduce (inverse_word u ++ (v ++ s)) ≡ t → Agrees pre x X letters Y others
+pub agrees : (pre : ℤ → List ℤ) (x z : ℤ) (X Y : State) (letters others u v s t : List ℤ) → X.label ≡ z → Y.label ≡ z
+    → X.place ≡ Y.place
+    → pre x ≡ u → letters ≡ v → pre z ≡ s → others ≡ t → reduce (inverse_word u ++ (v ++ s)) ≡ t
+    → Agrees pre x X letters Y others
 agrees pre x z X Y letters others u v s t at_X at_Y places is_u is_v is_s is_t word = record {
   same = ap (λ (l : ℤ). state_at l X.place) (at_X ∙ sym at_Y) ∙ ap (state_at Y.label) places;
   word =
@@ -100,9 +103,11 @@ cancel_pair x y h = ap (λ (b : Bool). cond b [] (x ∷ (y ∷ []))) (int_eq-sam
 
 -- ---- from a and from b
 
-module _ (pre : ℤ → List ℤ) (e f a b c d : ℤ) (n : Numbers) (h : IsBalanced n) (f_is : f ≡ inverse e) (p : Prefixes pre e f a b c d)
+module _ (pre : ℤ → List ℤ) (e f a b c d : ℤ) (n : Numbers) (h : IsBalanced n) (f_is : f ≡ inverse e)
+    (p : Prefixes pre e f a b c d)
     (i : ℕ) (X Y : State) (letters others : List ℤ) where
-  pub from_a : FirstExit n.ke n.kd n.A n.E n.D i e b c d X letters → SecondExit n.ld n.lc n.D' n.A' n.F n.C' i d b c e Y others
+  pub from_a : FirstExit n.ke n.kd n.A n.E n.D i e b c d X letters
+      → SecondExit n.ld n.lc n.D' n.A' n.F n.C' i d b c e Y others
       → Agrees pre a X letters Y others
   from_a (FirstExit.near k at place is) (SecondExit.near l at' place' is') = absurd (omega arith)
   from_a (FirstExit.near k at place is) (SecondExit.across_c l j there m at' place' is') =
@@ -113,16 +118,19 @@ module _ (pre : ℤ → List ℤ) (e f a b c d : ℤ) (n : Numbers) (h : IsBalan
   from_a (FirstExit.across_c k k' at place is) (SecondExit.across_d l j there m at' place' is') =
       agrees pre a c X Y letters others [] (e ∷ []) [] (e ∷ []) at at' (omega arith) p.at_a is p.at_c is' refl
   from_a (FirstExit.across_d k k' at place is) (SecondExit.near l at' place' is') =
-      agrees pre a d X Y letters others [] (e ∷ []) (f ∷ []) [] at at' (omega arith) p.at_a is p.at_d is' (cancel_pair e f f_is)
+      agrees pre a d X Y letters others [] (e ∷ []) (f ∷ []) [] at at' (omega arith) p.at_a is p.at_d is'
+      (cancel_pair e f f_is)
   from_a (FirstExit.across_d k k' at place is) (SecondExit.across_c l j there m at' place' is') = absurd (omega arith)
   from_a (FirstExit.across_d k k' at place is) (SecondExit.across_d l j there m at' place' is') = absurd (omega arith)
 
-  pub from_b : SecondExit n.ka n.kd n.A n.B n.E n.D i a c d e X letters → FirstExit n.lf n.la n.B' n.F' n.A' i f c d a Y others
+  pub from_b : SecondExit n.ka n.kd n.A n.B n.E n.D i a c d e X letters
+      → FirstExit n.lf n.la n.B' n.F' n.A' i f c d a Y others
       → Agrees pre b X letters Y others
   from_b (SecondExit.near k at place is) (FirstExit.near l at' place' is') = absurd (omega arith)
   from_b (SecondExit.near k at place is) (FirstExit.across_c l l' at' place' is') = absurd (omega arith)
   from_b (SecondExit.near k at place is) (FirstExit.across_d l l' at' place' is') =
-      agrees pre b a X Y letters others (e ∷ []) [] [] (f ∷ []) at at' (omega arith) p.at_b is p.at_a is' (ap (λ (x : ℤ). x ∷ []) (sym f_is))
+      agrees pre b a X Y letters others (e ∷ []) [] [] (f ∷ []) at at' (omega arith) p.at_b is p.at_a is'
+      (ap (λ (x : ℤ). x ∷ []) (sym f_is))
   from_b (SecondExit.across_c k j there m at place is) (FirstExit.near l at' place' is') =
       agrees pre b c X Y letters others (e ∷ []) (e ∷ []) [] [] at at' (omega arith) p.at_b is p.at_c is'
       (cancel_pair (inverse e) e (sym (inverse-inverse e)))

@@ -1,4 +1,8 @@
 -- The two triangles at the edge of a flip, before it and after it.
+--
+-- Before it they are (e,a,b) and (~e,c,d), by the sides that the flip names. Since e and ~e lie in two triangles, none
+-- of a, b, c, d is one of them: a side of the triangle of e that is ~e would lie in the triangle of ~e. After it they
+-- are (e,d,a) and (~e,b,c), as the laws of flips say, and all other triangles stay.
 use Rattle.std.proofs.Common.{ℤ, List, ◌≡◌, ◌≢◌, inl, inr, refl, sym, ◌∙◌, ap, subst}
 use Rattle.ideal_tri.specs.Labels.{inverse, edge_of}
 use Rattle.ideal_tri.specs.SurfaceLaws.{TriangleLaws}
@@ -10,7 +14,8 @@ use Rattle.tri_atlas.proofs.Letters.{inverse-inverse, edge_of-inverse, two_label
 use Rattle.tri_atlas.proofs.Flips.{inverse_label, label_after_flip}
 use Rattle.tri_atlas.proofs.Vectors.Quadrilaterals.{Quadrilateral, IsApartFrom}
 
-module _ (before target : List (List ℤ)) (e a b c d : ℤ) (t : TriangleLaws before) (h : IsFlip before target e a b c d) where
+module _ (before target : List (List ℤ)) (e a b c d : ℤ) (t : TriangleLaws before)
+    (h : IsFlip before target e a b c d) where
   other : IsLabel before (inverse e)
   other = inverse_label before e h.label
 
@@ -25,10 +30,12 @@ module _ (before target : List (List ℤ)) (e a b c d : ℤ) (t : TriangleLaws b
 
   triangle_of_d : triangle_of before d ≡ triangle_of before (inverse e)
   triangle_of_d =
-      ap (triangle_of before) h.side_d ∙ t.stays (next before (inverse e)) (t.label (inverse e) other) ∙ t.stays (inverse e) other
+      ap (triangle_of before) h.side_d ∙ t.stays (next before (inverse e)) (t.label (inverse e) other)
+      ∙ t.stays (inverse e) other
 
   -- the label of another side of a triangle isn't one of the edge, since the other label of the edge lies elsewhere
-  off : (x y z : ℤ) → z ≡ inverse y → x ≢ y → triangle_of before x ≡ triangle_of before y → triangle_of before y ≢ triangle_of before z
+  off : (x y z : ℤ) → z ≡ inverse y → x ≢ y → triangle_of before x ≡ triangle_of before y
+      → triangle_of before y ≢ triangle_of before z
       → edge_of x ≢ edge_of y
   off x y z z_is ne same apart is =
       elim (two_labels x y is) [
@@ -54,8 +61,12 @@ module _ (before target : List (List ℤ)) (e a b c d : ℤ) (t : TriangleLaws b
     label_d = subst (IsLabel before) (sym h.side_d) (t.label (next before (inverse e)) (t.label (inverse e) other));
     off_a = off a e (inverse e) refl (λ k. (t.moves e h.label).0 (sym h.side_a ∙ k)) triangle_of_a h.flippable;
     off_b = off b e (inverse e) refl (λ k. (t.moves e h.label).1 (sym h.side_b ∙ k)) triangle_of_b h.flippable;
-    off_c = off c (inverse e) e (sym (inverse-inverse e)) (λ k. (t.moves (inverse e) other).0 (sym h.side_c ∙ k)) triangle_of_c (λ k. h.flippable (sym k));
-    off_d = off d (inverse e) e (sym (inverse-inverse e)) (λ k. (t.moves (inverse e) other).1 (sym h.side_d ∙ k)) triangle_of_d (λ k. h.flippable (sym k));
+    off_c =
+        off c (inverse e) e (sym (inverse-inverse e))
+        (λ k. (t.moves (inverse e) other).0 (sym h.side_c ∙ k)) triangle_of_c (λ k. h.flippable (sym k));
+    off_d =
+        off d (inverse e) e (sym (inverse-inverse e))
+        (λ k. (t.moves (inverse e) other).1 (sym h.side_d ∙ k)) triangle_of_d (λ k. h.flippable (sym k));
   }
 
   pub sides_after : FlipLaws before e → Quadrilateral target e (inverse e) d a b c
@@ -95,7 +106,8 @@ module _ (before target : List (List ℤ)) (e a b c d : ℤ) (t : TriangleLaws b
       same_edge : edge_of (inverse e) ≡ edge_of e
       same_edge = edge_of-inverse e
 
-  pub others_stay : FlipLaws before e → (x : ℤ) → IsLabel before x → IsApartFrom e (inverse e) a b c d x → next target x ≡ next before x
+  pub others_stay : FlipLaws before e → (x : ℤ) → IsLabel before x → IsApartFrom e (inverse e) a b c d x
+      → next target x ≡ next before x
   others_stay laws x l q =
       ap (λ (u : List (List ℤ)). next u x) h.result
       ∙ laws.after_other x l (

@@ -1,9 +1,11 @@
 -- One step of a strand: where it leaves the triangle, with places counted from both ends of a side.
 --
--- A strand enters the triangle (x,y,z) through place i of x. With k strands round the corner at the tail of x, that of z,
--- it goes on to y where k <= i, and back to z where i < k. The place m where it leaves is counted from the tail of that
--- side, so i + m + 1 is the number of x in the first case, and that of z in the second: no difference is taken.
-use Rattle.std.proofs.Common.{ℕ, ℤ, Bool, true, false, cond, leb, List, ◌≡◌, ◌≤◌, ◌<◌, ◌+◌, ◌-◌, inl, inr, refl, sym, ◌∙◌}
+-- A strand enters the triangle (x,y,z) through place i of x. With k strands round the corner at the tail of x, that
+-- of z, it goes on to y where k <= i, and back to z where i < k. The place m where it leaves is counted from the tail
+-- of that side, so i + m + 1 is the number of x in the first case, and that of z in the second: no difference is
+-- taken.
+use Rattle.std.proofs.Common.{ℕ, ℤ, Bool, true, false, cond, leb, List, ◌≡◌, ◌≤◌, ◌<◌, ◌+◌, ◌-◌, inl, inr, refl, sym}
+use Rattle.std.proofs.Common.{◌∙◌}
 use Rattle.std.proofs.Common.{ap, subst, arith}
 use Rattle.std.specs.Prelude.{slice_index}
 use Rattle.std.proofs.lemmas.Bool.{cases_lt, le-leb, lt-leb}
@@ -75,11 +77,13 @@ module _ (triples : List (List ℤ)) (w : List ℕ) where
           → leb (corner_count triples w (previous triples (inverse q.label))) (weight w q.label - 1 - q.place) ≡ b
           → strand_step triples w q
           ≡ cond b
-          (state_at (next triples (inverse q.label)) (weight w (inverse q.label) - 1 - (weight w q.label - 1 - q.place)))
+          (state_at (next triples (inverse q.label))
+          (weight w (inverse q.label) - 1 - (weight w q.label - 1 - q.place)))
           (state_at (previous triples (inverse q.label))
           (weight w (previous triples (inverse q.label)) - 1 - (weight w q.label - 1 - q.place)))
       pick b e =
-          ap (λ (t : Bool). cond t (state_at (next triples x) (weight w x - 1 - at)) (state_at z (weight w z - 1 - at))) e
+          ap (λ (t : Bool). cond t (state_at (next triples x) (weight w x - 1 - at))
+          (state_at z (weight w z - 1 - at))) e
 
   -- the same, with the three sides named
   pub turns_at : (q : State) (i n : ℕ) (x y z : ℤ) → HasCornerSums triples w → IsLabel triples z → inverse q.label ≡ x
@@ -89,7 +93,8 @@ module _ (triples : List (List ℤ)) (w : List ℕ) where
       subst (λ (u : ℕ). Turns (corner_count triples w z) y z u (weight w z) i r) is_n
       (subst (λ (u : ℤ). Turns (corner_count triples w z) u z (weight w q.label) (weight w z) i r)
       (ap (next triples) is_x ∙ is_y)
-      (subst (λ (u : ℤ). Turns (corner_count triples w u) (next triples (inverse q.label)) u (weight w q.label) (weight w u) i r)
+      (subst (λ (u : ℤ). Turns (corner_count triples w u) (next triples (inverse q.label)) u (weight w q.label)
+      (weight w u) i r)
       there_z
       (step_turns q i h (subst (IsLabel triples) (sym there_z) l) (there ∙ sym is_n))))
     where
@@ -100,7 +105,8 @@ module _ (triples : List (List ℤ)) (w : List ℕ) where
       there_z = ap (previous triples) is_x ∙ is_z
 
   -- what holds of the two sides beside the one of entry holds of the side where a strand leaves
-  pub beside : (P : ℤ → Type 0) (q : State) → P (next triples (inverse q.label)) → P (previous triples (inverse q.label))
+  pub beside : (P : ℤ → Type 0) (q : State) → P (next triples (inverse q.label))
+      → P (previous triples (inverse q.label))
       → P (strand_step triples w q).label
   beside P q y z = go (leb (corner_count triples w (previous triples (inverse q.label))) i)
     where
