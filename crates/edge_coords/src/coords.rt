@@ -1,22 +1,22 @@
 //! Coordinates of multicurves.
-ghost use Rattle.std.specs.Prelude.{◌≡◌, ◌<◌, ◌≤◌, ◌-◌, ◌+◌, ◌++◌, ◌^◌, ◌↔◌, ℕ, length, take, IsTrue, IfOk, IfErr, IfSome, IfNone, All};
+ghost use Rattle.std.specs.Prelude.{◌≡◌, ◌<◌, ◌≤◌, ◌↔◌, length};
+ghost use Rattle.std.specs.Prelude.{IsTrue, IfOk, IfErr, IfSome, IfNone, All};
 ghost use Rattle.ideal_tri.specs.Labels.{edge_of};
 ghost use Rattle.ideal_tri.specs.Triangulations.{edge_count, IsTriangulation};
 ghost use Rattle.ideal_tri.specs.Vectors.{weight, IsEven, HasNoLongSide, IsMulticurve};
 ghost use Rattle.tri_atlas.specs.Arena.{triangulation, IsTriIn};
-ghost use Rattle.edge_coords.specs.Coordinates.{AreCoordinatesIn, coordinate_limit, total_of};
+ghost use Rattle.edge_coords.specs.Coordinates.{AreCoordinatesIn, AreSmall, total_of};
 ghost use Rattle.edge_coords.specs.Refusals.{IsLeastTooLarge, IsLeastFailing, IsRefusedFor};
-ghost use Rattle.edge_coords.specs.inside.LaidOut.{spare_numbers};
 
 use ideal_tri::{Label, Tri};
 use std::marker::Model;
 use tri_atlas::{Atlas, TriId};
 
 /// The most edges of a triangulation.
-const EDGES: usize = 48;
+pub(crate) const EDGES: usize = 48;
 
-/// Each coordinate is below this.
-pub(crate) const LIMIT: u128 = 1 << 126;
+/// Each coordinate is below this, 2^126, so that the sum of any three fits.
+pub const COORDINATE_LIMIT: u128 = 1 << 126;
 
 /// The normal coordinates of a multicurve at a triangulation of an atlas (Bell's flipper): one number
 /// for each edge, below 2^126, of how often the multicurve crosses it. They stand in fixed memory, and
@@ -47,6 +47,7 @@ pub enum CoordsError {
 impl Model for Coords {
     ghost use Rattle.std.specs.Prelude.{◌-◌, ◌++◌, length, take, min};
     ghost use Rattle.edge_coords.specs.Coordinates.{Coordinates};
+    ghost use Rattle.edge_coords.specs.declared.coords.TheConstants.{EDGES};
     ghost use Rattle.edge_coords.specs.inside.LaidOut.{IsLaidOut, spare_numbers};
     ghost use Rattle.edge_coords.specs.inside.Again.{count_again, numbers_again};
 
@@ -59,7 +60,7 @@ impl Model for Coords {
     ghost inverse = { λ v. record {
       tri = v.tri;
       count = length v.numbers;
-      numbers = v.numbers ++ spare_numbers (48 - length v.numbers);
+      numbers = v.numbers ++ spare_numbers (EDGES - length v.numbers);
     } };
 
     ghost inverse_ok = { λ a h i. record {
@@ -93,10 +94,10 @@ impl Coords {
         Ok(Coords::keep(t, values))
     }
 
-    /// Keeps at most 48 numbers below the limit.
+    /// Keeps at most as many numbers as there is room for, below the limit.
     pub(crate) fn keep(tri: TriId, values: &[u128]) -> Coords
-        requires few { length values.now ≤ 48 }
-        requires small { All (λ n. n < 2 ^ 126) values.now }
+        requires few { length values.now ≤ EDGES }
+        requires small { AreSmall values.now }
         ensures { result ≡ record { tri = tri; numbers = values.now } }
     {
         let mut numbers = [0; EDGES];
@@ -111,8 +112,8 @@ impl Coords {
     /// The numbers of the edges, in the order of the edges.
     pub fn values(&self) -> &[u128]
         ensures value { result.now ≡ self.now.numbers }
-        ensures small { All (λ n. n < 2 ^ 126) result.now }
-        ensures few { length result.now ≤ 48 }
+        ensures small { AreSmall result.now }
+        ensures few { length result.now ≤ EDGES }
     {
         &self.numbers[..self.count as usize]
     }
@@ -139,10 +140,10 @@ impl Coords {
 /// The first place of a number that is too large.
 fn first_too_large(values: &[u128]) -> Option<usize>
     ensures some { IfSome result (IsLeastTooLarge values.now) }
-    ensures none { IfNone result (All (λ n. n < coordinate_limit) values.now) }
+    ensures none { IfNone result (AreSmall values.now) }
 {
     for i in 0..values.len() {
-        if values[i] >= LIMIT {
+        if values[i] >= COORDINATE_LIMIT {
             return Some(i);
         }
     }
@@ -151,7 +152,7 @@ fn first_too_large(values: &[u128]) -> Option<usize>
 
 /// The first triangle with an odd sum.
 fn first_odd(tri: &Tri, w: &[u128]) -> Option<u32>
-    requires small { All (λ n. n < 2 ^ 126) w.now }
+    requires small { AreSmall w.now }
     requires one_per_edge { length w.now ≡ edge_count tri.now }
     ensures some { IfSome result (IsLeastFailing tri.now (IsEven w.now)) }
     ensures none { IfNone result (All (IsEven w.now) tri.now) }
@@ -166,7 +167,7 @@ fn first_odd(tri: &Tri, w: &[u128]) -> Option<u32>
 
 /// The first triangle with a long side.
 fn first_long(tri: &Tri, w: &[u128]) -> Option<u32>
-    requires small { All (λ n. n < 2 ^ 126) w.now }
+    requires small { AreSmall w.now }
     requires one_per_edge { length w.now ≡ edge_count tri.now }
     ensures some { IfSome result (IsLeastFailing tri.now (HasNoLongSide w.now)) }
     ensures none { IfNone result (All (HasNoLongSide w.now) tri.now) }
@@ -181,7 +182,7 @@ fn first_long(tri: &Tri, w: &[u128]) -> Option<u32>
 
 /// Whether the numbers at the three sides have an even sum.
 fn is_even(w: &[u128], triangle: &[Label; 3]) -> bool
-    requires small { All (λ n. n < 2 ^ 126) w.now }
+    requires small { AreSmall w.now }
     requires sides { All (λ x. edge_of x < length w.now) triangle.now }
     ensures { IsTrue result ↔ IsEven w.now triangle.now }
 {
@@ -193,7 +194,7 @@ fn is_even(w: &[u128], triangle: &[Label; 3]) -> bool
 
 /// Whether none of the numbers at the three sides is greater than the other two together.
 fn has_no_long_side(w: &[u128], triangle: &[Label; 3]) -> bool
-    requires small { All (λ n. n < 2 ^ 126) w.now }
+    requires small { AreSmall w.now }
     requires sides { All (λ x. edge_of x < length w.now) triangle.now }
     ensures { IsTrue result ↔ HasNoLongSide w.now triangle.now }
 {
@@ -205,10 +206,10 @@ fn has_no_long_side(w: &[u128], triangle: &[Label; 3]) -> bool
 
 /// The number at the edge of a label.
 pub(crate) fn weight(w: &[u128], x: Label) -> u128
-    requires small { All (λ n. n < 2 ^ 126) w.now }
+    requires small { AreSmall w.now }
     requires inside { edge_of x < length w.now }
     ensures value { result ≡ weight w.now x }
-    ensures small { result < 2 ^ 126 }
+    ensures small { result < COORDINATE_LIMIT }
 {
     w[x.edge() as usize]
 }
