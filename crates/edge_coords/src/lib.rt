@@ -2,5 +2,6 @@
 #![tactic(auto)]
 
 mod coords;
+mod corners;
 
-pub use coords::{Coords, CoordsError};
+pub use coords::{COORDINATE_LIMIT, Coords, CoordsError};
