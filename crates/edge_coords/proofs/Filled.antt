@@ -23,10 +23,11 @@ filled_more f xs i v within is h = record {
       (fill_by_more f xs i 0 (subst (λ (n : ℕ). i < n) (sym h.room) within) h.below);
 }
 
-pub filled : (f : ℕ → ℕ) (xs : List ℕ) (n : ℕ) → n ≤ EDGES → IsFilled f xs n → take n xs ≡ map f (range_with_len 0 n)
-filled f xs n few h =
+pub filled : (f : ℕ → ℕ) (xs : List ℕ) (n i : ℕ) → n ≤ EDGES → n ≤ i → IsFilled f xs i
+    → take n xs ≡ map f (range_with_len 0 n)
+filled f xs n i few all h =
     fill_by_all f (take n xs) n 0 (length-take-le n xs (subst (λ (m : ℕ). n ≤ m) (sym h.room) few))
-    (λ k within. get_or-take n xs k 0 within ∙ h.below k within)
+    (λ k within. get_or-take n xs k 0 within ∙ h.below k (omega arith))
 
 pub small_values : (f : ℕ → ℕ) (n : ℕ) → ((k : ℕ) → k < n → f k < COORDINATE_LIMIT)
     → AreSmall (map f (range_with_len 0 n))

@@ -5,7 +5,7 @@ use Rattle.ideal_tri.specs.Triangulations.{edge_count}
 use Rattle.ideal_tri.specs.PeripheralParts.{least_count, stripped}
 use Rattle.edge_coords.specs.Coordinates.{AreSmall}
 use Rattle.edge_coords.specs.declared.coords.TheConstants.{COORDINATE_LIMIT}
-use Rattle.edge_coords.proofs.Filled.{IsFilled, filled_more, filled, small_values}
+use Rattle.edge_coords.proofs.Filled.{filled_more, filled, small_values}
 use Rattle.edge_coords.proofs.corners.stripped.Goals as goal
 
 -- the number that stays at an edge
@@ -30,12 +30,9 @@ loop-e-preserved c =
 pub returns-clause-value : goal.returns-clause-value
 unfolding left_at
 returns-clause-value c =
-    let n : ℕ = edge_count c.args.tri.now in
-    let many : length c.args.w.now ≡ n = c.requires.multicurve.one_per_edge in
-    let all : c.loop-e.e ≡ length c.args.w.now = omega arith in
-    filled (left_at c.args.tri.now c.args.w.now) c.loop-e.numbers (length c.args.w.now) c.requires.few
-    (subst (λ (m : ℕ). IsFilled (left_at c.args.tri.now c.args.w.now) c.loop-e.numbers m) all c.loop-e.invariant)
-    ∙ ap (λ (m : ℕ). map (left_at c.args.tri.now c.args.w.now) (range_with_len 0 m)) many
+    filled (left_at c.args.tri.now c.args.w.now) c.loop-e.numbers (length c.args.w.now) c.loop-e.e c.requires.few
+    c.loop-e-test.false c.loop-e.invariant
+    ∙ ap (λ (m : ℕ). map (left_at c.args.tri.now c.args.w.now) (range_with_len 0 m)) c.requires.multicurve.one_per_edge
 
 pub returns-clause-small : goal.returns-clause-small
 unfolding left_at
