@@ -2,5 +2,7 @@ pub mod Triangles
 pub mod Kept
 pub mod Filled
 pub mod Turns
+pub mod MoveSteps
+pub mod Along
 pub mod Ends
 pub mod FirstPeripheral

@@ -7,5 +7,5 @@ mod moves;
 mod sums;
 
 pub use coords::{COORDINATE_LIMIT, Coords, CoordsError};
-pub use moves::Overflow;
+pub use moves::{Overflow, OverflowAt};
 pub use sums::NotMulticurve;
