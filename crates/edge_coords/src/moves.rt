@@ -19,7 +19,7 @@ ghost use Rattle.tri_atlas.specs.VectorLaws.{MovedLaws, AlongLaws, OverflowLaws}
 ghost use Rattle.edge_coords.specs.Coordinates.{AreCoordinatesIn, AreSmall};
 ghost use Rattle.edge_coords.specs.MovedCoordinates.{moved_by, moved_along, IsImage, IsOverflowOf};
 ghost use Rattle.edge_coords.specs.MovedCoordinates.{IsFirstOverflow, IsOverflowAlong};
-ghost use Rattle.edge_coords.specs.inside.Steps.{IsFlipOf, IsStepOf};
+ghost use Rattle.edge_coords.specs.inside.Steps.{IsFlipOf, IsRelabellingOf, IsStepOf};
 
 use crate::coords::{COORDINATE_LIMIT, Coords, EDGES, weight};
 use ideal_tri::{Label, surface_laws};
@@ -136,7 +136,10 @@ impl Coords {
             Step::Flip { e, a, b, c, d } | Step::Unflip { e, a, b, c, d } => {
                 self.flip(*e, *a, *b, *c, *d)
             }
-            Step::Relabel(images) => Ok(()),
+            Step::Relabel(images) => {
+                relabel(&mut self.numbers, self.count as usize, images);
+                Ok(())
+            }
         }
     }
 
@@ -183,6 +186,24 @@ fn flipped_number(w: &[u128], e: Label, a: Label, b: Label, c: Label, d: Label) 
     let first = weight(w, a) + weight(w, c);
     let second = weight(w, b) + weight(w, d);
     first.max(second) - weight(w, e)
+}
+
+/// Moves the number of each edge to the edge of its image. Only the first `count` numbers and images
+/// count.
+fn relabel(numbers: &mut [u128; EDGES], count: usize, images: &[Label; EDGES])
+    requires few { count ≤ EDGES }
+    requires small { AreSmall (take count numbers.old) }
+    requires relabelling { IsRelabellingOf (take count numbers.old) (take count images.now) }
+    ensures moved { take count numbers.new
+        ≡ vector_after (relabel (take count images.now)) (take count numbers.old) }
+    ensures small { AreSmall (take count numbers.new) }
+    ensures rest { drop count numbers.new ≡ drop count numbers.old }
+    ensures room { length numbers.new ≡ EDGES }
+{
+    let before = *numbers;
+    for k in 0..count {
+        numbers[images[k].edge() as usize] = before[k];
+    }
 }
 
 /// What is proved of a move from the triangulation of a multicurve.
