@@ -8,11 +8,13 @@ pub mod Rising
 pub mod Sides
 pub mod Firsts
 pub mod FirstCycles
+pub mod InOrder
 pub mod Through
 pub mod Numbers
 pub mod States
 pub mod Draw
 pub mod Tracing
+pub mod CornerCounts
 pub mod LeastCounts
 pub mod Turns
 pub mod Round

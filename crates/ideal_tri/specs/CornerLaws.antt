@@ -17,9 +17,11 @@ pub record CornerLaws (triples : List (List ℤ)) : Type 0 where
       → ((x : ℤ) → IsLabel triples x → weight w x ≡ count x + count (previous triples x))
       → IsMulticurve triples w × HasCorners triples w count
   -- a sum of multicurves is one, and its corner counts are the sums
-  pub sum : (u v w : List ℕ) → IsMulticurve triples u → IsMulticurve triples v → length w ≡ edge_count triples
+  pub sum : (u v w : List ℕ) → IsMulticurve triples u → IsMulticurve triples v
+      → length w ≡ edge_count triples
       → ((e : ℕ) → e < edge_count triples → slice_index w e ≡ slice_index u e + slice_index v e)
-      → IsMulticurve triples w × HasCorners triples w (λ x. corner_count triples u x + corner_count triples v x)
+      → IsMulticurve triples w
+      × HasCorners triples w (λ x. corner_count triples u x + corner_count triples v x)
   -- the corners at the two ends of a side
   pub tail : (x : ℤ) → IsLabel triples x → IsSameVertex triples (previous triples x) (inverse x)
   -- the least count of a vertex is that of a corner there, and no corner there has less
@@ -29,12 +31,20 @@ pub record CornerLaws (triples : List (List ℤ)) : Type 0 where
       → least_count triples w x ≤ corner_count triples w y
   pub same : (w : List ℕ) (x y : ℤ) → IsLabel triples x → IsSameVertex triples x y
       → least_count triples w x ≡ least_count triples w y
-  -- a drawing has a word, and none round a vertex, exactly where something is crossed and each vertex has a free corner
-  pub criterion : (w : List ℕ) (runs : List (List State)) → IsMulticurve triples w → IsDrawing triples w runs
-      → IsNonperipheral triples (words_of runs) ↔ ((¬ All (λ n. n ≡ 0) w) × HasFreeCorners triples w)
-  -- without the curves round vertices: each corner has lost the least count of its vertex, and there are no more to take off
-  pub stripped_is : (w : List ℕ) → IsMulticurve triples w → IsMulticurve triples (stripped triples w)
+  -- a drawing has a word, and none round a vertex, exactly where something is crossed and each
+  -- vertex has a free corner
+  pub criterion : (w : List ℕ) (runs : List (List State)) → IsMulticurve triples w
+      → IsDrawing triples w runs
+      → IsNonperipheral triples (words_of runs)
+      ↔ ((¬ All (λ n. n ≡ 0) w) × HasFreeCorners triples w)
+  -- without the curves round vertices: each corner has lost the least count of its vertex, and
+  -- there are no more to take off
+  pub stripped_is : (w : List ℕ) → IsMulticurve triples w
+      → IsMulticurve triples (stripped triples w)
   pub stripped_corners : (w : List ℕ) (x : ℤ) → IsMulticurve triples w → IsLabel triples x
-      → corner_count triples (stripped triples w) x + least_count triples w x ≡ corner_count triples w x
-  pub stripped_free : (w : List ℕ) → IsMulticurve triples w → HasFreeCorners triples (stripped triples w)
-  pub stripped_again : (w : List ℕ) → IsMulticurve triples w → stripped triples (stripped triples w) ≡ stripped triples w
+      → corner_count triples (stripped triples w) x + least_count triples w x
+      ≡ corner_count triples w x
+  pub stripped_free : (w : List ℕ) → IsMulticurve triples w
+      → HasFreeCorners triples (stripped triples w)
+  pub stripped_again : (w : List ℕ) → IsMulticurve triples w
+      → stripped triples (stripped triples w) ≡ stripped triples w

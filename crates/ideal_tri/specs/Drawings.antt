@@ -5,7 +5,7 @@ use Rattle.std.specs.List.Sorted.{IsStrictlyIncreasing}
 use Rattle.ideal_tri.specs.Labels.{edge_of}
 use Rattle.ideal_tri.specs.Strands.{State, state_at, same_state, strand_step}
 
--- ---- strands are numbered from 0, edge after edge, and on an edge from the tail of its label that is not negative
+-- ---- numbers of strands: from 0, edge after edge, from the tail of the label that is not negative
 
 -- the place on the edge, seen from that label
 abbrev pub place_on_edge : List ℕ → ℤ → ℕ → ℕ
@@ -16,7 +16,8 @@ place_on_edge w (negsuc e) i = slice_index w e - 1 - i
 abbrev pub strand_number : List ℕ → State → ℕ
 strand_number w q = sum (take (edge_of q.label) w) + place_on_edge w q.label q.place
 
--- the strands of the edges from e on, with these numbers, each as a state of the label that is not negative
+-- the strands of the edges from e on, in the order of their numbers, each as a state of the label
+-- that is not negative
 abbrev pub strands_from : ℕ → List ℕ → List State
 strands_from e [] = []
 strands_from e (n ∷ w) = map (state_at (pos e)) (range_with_len 0 n) ++ strands_from (suc e) w

@@ -22,19 +22,21 @@ pub fn same_curves_laws()
     ensures { SameCurvesLaws }
 {}
 
-/// What is proved of the drawings of a vector: they exist, their words are unique up to order, rotation and direction, and
-/// one begins each curve at its least strand, in rising order.
+/// What is proved of the drawings of a vector: they exist, their words are unique up to order,
+/// rotation and direction, and one begins each curve at its least strand, in rising order.
 pub fn drawing_laws()
     ensures { (triples : List (List ℤ)) → IsTriangulation triples → DrawingLaws triples }
 {}
 
-/// What is proved of the steps of strands: where they lead, and how the curves of a drawing are found strand by strand.
+/// What is proved of the steps of strands: where they lead, and how the curves of a drawing are
+/// found strand by strand.
 pub fn strand_laws()
     ensures { (triples : List (List ℤ)) → IsTriangulation triples → StrandLaws triples }
 {}
 
-/// What is proved of the corners of a vector: it is a multicurve where its sides are sums of counts at corners, it has a
-/// curve round a vertex exactly where all corners there have strands, and these curves can be taken off.
+/// What is proved of the corners of a vector: it is a multicurve where its sides are sums of counts
+/// at corners, it has a curve round a vertex exactly where all corners there have strands, and
+/// these curves can be taken off.
 pub fn corner_laws()
     ensures { (triples : List (List ℤ)) → IsTriangulation triples → CornerLaws triples }
 {}

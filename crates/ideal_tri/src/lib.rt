@@ -6,8 +6,8 @@
 //!
 //! A contract sees a `Label` as its number and a `Tri` as the list of its triples. The definitions stand in `specs/`, to be
 //! read in this order: `Labels`, `Words` (free and cyclic reduction), `Triangulations` (next sides, walks), `Refusals`,
-//! `Curves` (closed words up to rotation and direction), `Vectors` (multicurves), `Strands` (drawings), `Peripheral`,
-//! `Vertices`, `Flips`, `Relabellings`. The files named after them with `Laws` state what is proved of them; `Places` and
+//! `Curves` (closed words up to rotation and direction), `Vectors` (multicurves), `Strands` (drawings), `Drawings` (the one
+//! from the least strands on), `Peripheral`, `Vertices`, `PeripheralParts`, `Flips`, `Relabellings`. The files named after them with `Laws` state what is proved of them; `Places` and
 //! `LaidOut` serve the private fields of `Tri` alone.
 #![tactic(auto)]
 

@@ -7,9 +7,9 @@ use Rattle.ideal_tri.specs.Labels.{inverse, edge_of}
 use Rattle.ideal_tri.specs.Words.{IsCyclicallyReduced, cyclic_reduce}
 use Rattle.ideal_tri.specs.WordLaws.{CyclicLaws}
 use Rattle.ideal_tri.specs.Curves.{crossings}
-use Rattle.ideal_tri.specs.Triangulations.{IsLabel, IsWalk, edge_count, triangle_of}
+use Rattle.ideal_tri.specs.Triangulations.{IsLabel, IsTriangulation, IsWalk, edge_count, triangle_of}
 use Rattle.ideal_tri.specs.Strands.{words_of}
-use Rattle.ideal_tri.specs.SurfaceLaws.{DrawingLaws, SurfaceLaws}
+use Rattle.ideal_tri.specs.DrawingLaws.{DrawingLaws}
 use Rattle.ideal_tri.specs.Relabellings.{hits, image_of, reduced_images, IsRelabelling}
 use Rattle.relabel.specs.Laws.{IsOnto, MovesCounts, RelabellingLaws}
 use Rattle.relabel.proofs.Hits.{place_of_hit, hits_past}
@@ -79,8 +79,8 @@ moves_counts from to images cyclic drawings h w runs vector drawing e below =
         (λ v walk. subst (λ (n : ℕ). All (λ x. edge_of x < n) v) (sym h.one_per_edge) (walk_labels from v walk.0 walk.0 walk.1))
         words (drawings.walks w runs vector drawing)
 
-pub all_laws : CyclicLaws → SurfaceLaws → RelabellingLaws
-all_laws cyclic surface = record {
+pub all_laws : CyclicLaws → ((triples : List (List ℤ)) → IsTriangulation triples → DrawingLaws triples) → RelabellingLaws
+all_laws cyclic drawings = record {
   onto = λ from to images from_is to_is same h. onto from to images h;
-  counts = λ from to images from_is to_is same h. moves_counts from to images cyclic (surface.drawings from from_is) h;
+  counts = λ from to images from_is to_is same h. moves_counts from to images cyclic (drawings from from_is) h;
 }

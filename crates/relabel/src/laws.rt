@@ -1,7 +1,7 @@
 //! What is proved of relabellings beyond the answers of the calls.
 ghost use Rattle.relabel.specs.Laws.{RelabellingLaws};
 
-use ideal_tri::{surface_laws, word_laws};
+use ideal_tri::{drawing_laws, word_laws};
 
 /// What is proved of relabellings: each edge is the image of one, and the images of the curves that draw a vector cross
 /// the image of each edge as often as the vector says of the edge. It does nothing.
@@ -9,5 +9,5 @@ pub fn relabelling_laws()
     ensures { RelabellingLaws }
 {
     word_laws();
-    surface_laws();
+    drawing_laws();
 }

@@ -1,9 +1,10 @@
--- Worked examples on the once-punctured torus: the maps of a flip and of a relabelling, and a path undone.
+-- Worked examples on the once-punctured torus: the maps of a flip and of a relabelling, a path undone, and a twist.
 use Rattle.std.proofs.Common.{◌≡◌, ℤ, pos, negsuc, List, [], ◌∷◌, ◌++◌, refl, arith}
 use Rattle.ideal_tri.specs.Triangulations.{IsWalk, previous}
 use Rattle.ideal_tri.specs.Flips.{flipped}
 use Rattle.tri_atlas.specs.Moves.{Move, flip, relabel, back_of, back_along, inverse_images}
 use Rattle.tri_atlas.specs.Maps.{image_of_letter, path_map}
+use Rattle.tri_atlas.specs.MovedVectors.{vector_along}
 
 abbrev torus : List (List ℤ)
 torus = (pos 0 ∷ pos 1 ∷ pos 2 ∷ []) ∷ (negsuc 0 ∷ negsuc 1 ∷ negsuc 2 ∷ []) ∷ []
@@ -47,3 +48,14 @@ rotated_back = refl
 -- a relabelling with a label turned round, and back
 turned_back : inverse_images (negsuc 1 ∷ pos 0 ∷ pos 2 ∷ []) ≡ pos 1 ∷ negsuc 0 ∷ pos 2 ∷ []
 turned_back = refl
+
+-- the Dehn twist about the curve that crosses the edges 0 and 2: a flip and a relabelling
+abbrev twist : List Move
+twist = first_flip ∷ relabel (pos 2 ∷ pos 1 ∷ negsuc 0 ∷ []) ∷ []
+
+-- it fixes that curve, and moves the curve that crosses the edges 1 and 2
+twist_fixes : vector_along twist (1 ∷ 0 ∷ 1 ∷ []) ≡ 1 ∷ 0 ∷ 1 ∷ []
+twist_fixes = refl
+
+twist_moves : vector_along twist (0 ∷ 1 ∷ 1 ∷ []) ≡ 1 ∷ 1 ∷ 2 ∷ []
+twist_moves = refl

@@ -6,8 +6,8 @@ use ideal_tri::{
     word_laws,
 };
 
-/// What is proved of the vectors of multicurves: after a move or a path, the rule with the maximum gives the crossings of
-/// the images of the curves, cyclically reduced (Mosher; Penner and Harer).
+/// What is proved of the vectors of multicurves: after a move or a path, the rule with the maximum
+/// gives the crossings of the images of the curves, cyclically reduced (Mosher; Penner and Harer).
 pub fn vector_laws()
     ensures { VectorLaws }
 {

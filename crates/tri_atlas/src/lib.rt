@@ -5,8 +5,10 @@
 //! atlas, and an edge is read only at its own triangulation: `Atlas::carry` alone brings it across a move. A `Path` is a
 //! list of moves, each starting where the one before ended.
 //!
-//! What contracts see of an atlas and its handles stands in `specs/Arena.antt`, of paths in `specs/Paths.antt`; moves
-//! and their maps stand in `specs/Moves.antt` and `specs/Maps.antt`.
+//! What contracts see of an atlas and its handles stands in `specs/Arena.antt`, of paths in
+//! `specs/Paths.antt`; moves and their maps stand in `specs/Moves.antt` and `specs/Maps.antt`, and the
+//! vectors of multicurves after moves in `specs/MovedVectors.antt`. `vector_laws` has the theorem of
+//! one move and of a path.
 #![tactic(auto)]
 
 mod arena_laws;

@@ -1,12 +1,12 @@
 -- Families of closed runs that use each pair of opposite things once. Any two have the same runs up to rotation and
 -- direction.
 --
--- A run of such a family is a rotation of the cycle of each thing that it uses, forwards or backwards. So of the runs of
--- another family exactly one is alike to it: the one that uses its first element. Sums over both families that don't tell
--- alike runs apart are therefore equal; no permutation between the two is built.
-use Rattle.std.proofs.Common.{ℕ, zero, suc, Bool, true, false, cond, ltb, List, [], ◌∷◌, ◌++◌, ◌≡◌, ◌≢◌, ◌≤◌, ◌<◌, ◌+◌, ◌-◌, ◌*◌, ◌⊎◌, inl, inr, refl, sym, ◌∙◌, ap, subst, append_assoc, arith, length, length-append, map}
+-- A run of such a family is a rotation of the cycle of each thing that it uses, forwards or backwards. So of the runs
+-- of another family exactly one is alike to it: the one that uses its first element. Sums over both families that don't
+-- tell alike runs apart are therefore equal; no permutation between the two is built.
+use Rattle.std.proofs.Common.{ℕ, Bool, true, false, cond, ltb, List, [], ◌∷◌, ◌++◌, ◌≡◌, ◌≢◌, ◌≤◌, ◌+◌, ◌⊎◌, inl, inr, refl, sym, ◌∙◌, ap, arith, length, length-append}
 use Rattle.std.specs.List.{All, count_by, sum_by, flat_map}
-use Rattle.std.proofs.lemmas.Bool.{cases_Bool, cases_lt, cases_eq, lt-ltb, le-ltb}
+use Rattle.std.proofs.lemmas.Bool.{cases_eq, lt-ltb}
 use Rattle.std.proofs.lemmas.List.Elements.{All-nil, All-cons, All-head, All-tail}
 use Rattle.std.proofs.lemmas.List.Sums.{sum_by-cons}
 use Rattle.ideal_tri.specs.Words.{IsRotation}
@@ -24,7 +24,8 @@ module _ {A : Type 0} (s : Pairings A) where
 
   pub uses-opposite : (x : A) (run : List A) → s.Valid x → uses (s.opposite x) run ≡ uses x run
   uses-opposite x run v =
-      let twice : O.count s (s.opposite (s.opposite x)) run ≡ O.count s x run = ap (λ (y : A). O.count s y run) (s.opposite_back x v) in
+      let twice : O.count s (s.opposite (s.opposite x)) run ≡ O.count s x run =
+      ap (λ (y : A). O.count s y run) (s.opposite_back x v) in
       omega arith
 
   pub uses-append : (x : A) (run more : List A) → uses x (run ++ more) ≡ uses x run + uses x more
@@ -67,7 +68,12 @@ module _ {A : Type 0} (s : Pairings A) where
       O.no_longer s s.Valid (run ++ R.back s run) (C.all s) (R.both_valid s run valid)
       (λ y u.
       let some : O.count s y (C.all s) ≢ 0 = C.all_counted s y u in
-      omega (arith, count_by-append (s.same y) run (R.back s run), R.count-back s y run u valid, (cycle_simple x v).once y u)) in
+      omega (
+        arith,
+        count_by-append (s.same y) run (R.back s run),
+        R.count-back s y run u valid,
+        (cycle_simple x v).once y u,
+      )) in
       omega (arith, length-append run (R.back s run), R.length-back s run, C.all_long s)
 
   -- ---- alike: up to rotation and direction
@@ -92,10 +98,12 @@ module _ {A : Type 0} (s : Pairings A) where
 
   uses-back : (run : List A) → All s.Valid run → (x : A) → s.Valid x → uses x (R.back s run) ≡ uses x run
   uses-back run h x v =
-      let twice : O.count s (s.opposite (s.opposite x)) run ≡ O.count s x run = ap (λ (y : A). O.count s y run) (s.opposite_back x v) in
+      let twice : O.count s (s.opposite (s.opposite x)) run ≡ O.count s x run =
+      ap (λ (y : A). O.count s y run) (s.opposite_back x v) in
       omega (arith, R.count-back s x run v h, R.count-back s (s.opposite x) run (s.opposite_valid x v) h)
 
-  uses-alike : (run other : List A) → R.Closed s run → IsAlike run other → (x : A) → s.Valid x → uses x run ≡ uses x other
+  uses-alike : (run other : List A) → R.Closed s run → IsAlike run other → (x : A) → s.Valid x
+      → uses x run ≡ uses x other
   uses-alike run other c (inl r) x v = uses-rotation run other r x
   uses-alike run other c (inr r) x v =
       sym (uses-back run (R.closed_valid s run c) x v) ∙ uses-rotation (R.back s run) other r x
@@ -119,7 +127,8 @@ module _ {A : Type 0} (s : Pairings A) where
   uses-joined x (run ∷ runs) =
       omega (arith, uses-append x run (joined runs), uses-joined x runs, sum_by-cons (uses x) run runs)
 
-  simple_if : (runs : List (List A)) → All (R.Closed s) runs → ((x : A) → s.Valid x → uses x (joined runs) ≤ 1) → All Simple runs
+  simple_if : (runs : List (List A)) → All (R.Closed s) runs → ((x : A) → s.Valid x → uses x (joined runs) ≤ 1)
+      → All Simple runs
   simple_if [] c once = All-nil Simple
   simple_if (run ∷ runs) c once =
       All-cons Simple run runs
@@ -127,7 +136,11 @@ module _ {A : Type 0} (s : Pairings A) where
         closed = All-head (R.Closed s) run runs c;
         once = λ x v. omega (arith, once x v, uses-append x run (joined runs));
       })
-      (simple_if runs (All-tail (R.Closed s) run runs c) (λ x v. omega (arith, once x v, uses-append x run (joined runs))))
+      (simple_if runs (All-tail (R.Closed s) run runs c) (λ x v. omega (
+        arith,
+        once x v,
+        uses-append x run (joined runs),
+      )))
 
   pub family_simple : (runs : List (List A)) → Family runs → All Simple runs
   family_simple runs f = simple_if runs f.closed (λ x v. omega (arith, f.once x v))
@@ -151,7 +164,8 @@ module _ {A : Type 0} (s : Pairings A) where
   unfolding uses_first
   count-uses_first x run [] v h = refl
   count-uses_first x run (other ∷ runs) v h =
-      let here : cond (ltb 0 (uses x other)) 1 0 ≡ uses x other = number (uses x other) ((All-head Simple other runs h).once x v) in
+      let here : cond (ltb 0 (uses x other)) 1 0 ≡ uses x other =
+      number (uses x other) ((All-head Simple other runs h).once x v) in
       omega (
         arith,
         count_by-cons (uses_first (x ∷ run)) other runs,

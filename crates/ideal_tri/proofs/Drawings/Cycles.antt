@@ -1,19 +1,17 @@
 -- The cycle of a thing: the one run that begins there and comes back for the first time. It uses each pair of opposite
 -- things once at most.
 --
--- It closes, since the orbit is longer than the number of things. It never passes a thing and the opposite one: if n steps
--- led from x to its opposite, then n - 2 steps would lead from the step of x to the opposite of that, and so on down to
--- none or one, where it can't be. So a closed run that uses each pair once at most is a rotation of the cycle of any thing
--- that it uses, forwards or backwards.
-use Rattle.std.proofs.Common.{ℕ, zero, suc, Bool, true, false, cond, List, [], ◌∷◌, ◌++◌, ◌≡◌, ◌≢◌, ◌≤◌, ◌<◌, ◌+◌, ◌-◌, ◌*◌, ◌⊎◌, inl, inr, refl, sym, ◌∙◌, ap, subst, append_assoc, arith, length, length-append, map}
-use Rattle.std.specs.List.{All, count_by, before_first}
+-- It closes, since the orbit is longer than the number of things. It never passes a thing and the opposite one: if n
+-- steps led from x to its opposite, then n - 2 steps would lead from the step of x to the opposite of that, and so on
+-- down to none or one, where it can't be. So a closed run that uses each pair once at most is a rotation of the cycle
+-- of any thing that it uses, forwards or backwards.
+use Rattle.std.proofs.Common.{ℕ, zero, suc, Bool, true, false, cond, List, [], ◌∷◌, ◌++◌, ◌≡◌, ◌≢◌, ◌≤◌, ◌+◌, ◌-◌, ◌*◌, ◌⊎◌, inl, inr, refl, sym, ◌∙◌, ap, subst, arith, length, length-append}
+use Rattle.std.specs.List.{before_first}
 use Rattle.std.proofs.lemmas.Bool.{cases_Bool, cases_lt}
-use Rattle.std.proofs.lemmas.List.{length-map, append-nil}
-use Rattle.std.proofs.lemmas.List.Elements.{All-nil, All-cons, All-head, All-tail, All-append, All-map}
 use Rattle.ideal_tri.specs.Words.{IsRotation}
 use Rattle.ideal_tri.specs.Drawings.{orbit}
 use Rattle.ideal_tri.proofs.Rotations.{Rotation-count_by}
-use Rattle.ideal_tri.proofs.Drawings.Tallies.{All-back, All-front, Split, split, count_by-cons, count_by-append, count_by-map, count_by-split, count_by-no, none_if}
+use Rattle.ideal_tri.proofs.Drawings.Tallies.{Split, split, count_by-cons, count_by-append, count_by-no, none_if}
 use Rattle.ideal_tri.proofs.Drawings.Orbits as O
 use Rattle.ideal_tri.proofs.Drawings.Orbits.{Pairings}
 use Rattle.ideal_tri.proofs.Drawings.Runs as R
@@ -65,7 +63,13 @@ module _ {A : Type 0} (s : Pairings A) where
         | inl e ↦ ap (λ (b : Bool). O.count s x (cond b [] (y ∷ front x ys))) e
         | inr e ↦
             ap (λ (b : Bool). O.count s x (cond b [] (y ∷ front x ys))) e
-            ∙ omega (arith, count_by-cons (s.same x) y ys, count_by-cons (s.same x) y (front x ys), front-count x ys, none_if (s.same x y) e)
+            ∙ omega (
+              arith,
+              count_by-cons (s.same x) y ys,
+              count_by-cons (s.same x) y (front x ys),
+              front-count x ys,
+              none_if (s.same x y) e,
+            )
       ]
 
   front_runs : (n : ℕ) (x y : A) → O.count s x (orbit step n y) ≢ 0 → R.Runs s y (front x (orbit step n y)) x
@@ -157,7 +161,8 @@ module _ {A : Type 0} (s : Pairings A) where
   never_opposite (suc (suc n)) x v e =
       let u : s.Valid (step x) = O.step_valid s x v in
       never_opposite n (step x) u
-      (O.step_injective s (after n (step x)) (s.opposite (step x)) (after_valid n (step x) u) (s.opposite_valid (step x) u)
+      (O.step_injective s (after n (step x)) (s.opposite (step x)) (after_valid n (step x) u)
+      (s.opposite_valid (step x) u)
       (sym (after-suc n (step x)) ∙ e ∙ sym (O.step_back s x v)))
 
   -- how many steps from the start of a run to a thing that it passes

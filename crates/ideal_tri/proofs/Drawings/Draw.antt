@@ -1,11 +1,10 @@
 -- Drawings exist, and are unique.
 --
--- What is shown of families of closed runs says that each multicurve has a drawing, that one alone begins each curve at its
--- least strand in rising order, and, since the way back of a run has the inverse word, that the words of any two drawings
--- are the same curves.
-use Rattle.std.proofs.Common.{ℕ, ℤ, pos, negsuc, Bool, true, cond, leb, List, [], ◌∷◌, ◌++◌, ◌≡◌, ◌≢◌, ◌≤◌, ◌<◌, ◌+◌, ◌-◌, ◌⊎◌, ◌↔◌, inl, inr, refl, sym, ◌∙◌, ap, subst, arith, length, map, get_or}
-use Rattle.std.specs.List.{All, AllPass, count_by, sum_by, flat_map}
-use Rattle.std.specs.Prelude.{slice_index}
+-- What is shown of families of closed runs says that each multicurve has a drawing, that one alone begins each curve at
+-- its least strand in rising order, and, since the way back of a run has the inverse word, that the words of any two
+-- drawings are the same curves.
+use Rattle.std.proofs.Common.{ℕ, ℤ, pos, Bool, true, cond, leb, List, [], ◌∷◌, ◌++◌, ◌≡◌, ◌≢◌, ◌≤◌, ◌<◌, ◌↔◌, inl, inr, refl, sym, ◌∙◌, ap, subst, arith, length, map}
+use Rattle.std.specs.List.{All, AllPass}
 use Rattle.std.specs.List.Sorted.{IsStrictlyIncreasing}
 use Rattle.std.proofs.lemmas.Bool.{leb-true, le-leb}
 use Rattle.std.proofs.lemmas.List.{map-append, get_or_default}
@@ -14,14 +13,12 @@ use Rattle.std.proofs.lemmas.List.Sums.{AllPass-from_list_all, list_all-from_All
 use Rattle.ideal_tri.specs.Labels.{inverse, edge_of}
 use Rattle.ideal_tri.specs.Words.{inverse_word, IsRotation}
 use Rattle.ideal_tri.specs.Curves.{IsSameCurve, IsSameCurves, is_same_curve, crossings}
-use Rattle.ideal_tri.specs.Triangulations.{edge_count}
-use Rattle.ideal_tri.specs.Vectors.{weight}
 use Rattle.ideal_tri.specs.Strands.{State, state_at, IsStrand, IsClosedRun, IsDrawing, opposite, word_of, words_of}
-use Rattle.ideal_tri.specs.Drawings.{strand_number, strands, curve_from, is_least_of, least_among, draw, BeginsAtLeast, first_number, IsRising}
+use Rattle.ideal_tri.specs.Drawings.{strand_number, strands, curve_from, least_among, draw, BeginsAtLeast, first_number, IsRising}
 use Rattle.ideal_tri.proofs.Rotations.{Rotation-map, is_same_curve-respects}
 use Rattle.ideal_tri.proofs.Crossings.{drawing_counts}
 use Rattle.ideal_tri.proofs.Drawings.Tallies.{count_by-map}
-use Rattle.ideal_tri.proofs.Drawings.Rising.{Rising, rising, increasing}
+use Rattle.ideal_tri.proofs.Drawings.Rising.{rising, increasing}
 use Rattle.ideal_tri.proofs.Drawings.Through.{state_same}
 use Rattle.ideal_tri.proofs.Drawings.Numbers.{IsSide, are_sides, in_strands}
 use Rattle.ideal_tri.proofs.Drawings.Orbits as O
@@ -32,7 +29,7 @@ use Rattle.ideal_tri.proofs.Drawings.Alike as L
 use Rattle.ideal_tri.proofs.Drawings.Firsts as F
 use Rattle.ideal_tri.proofs.Drawings.FirstCycles as FC
 use Rattle.ideal_tri.proofs.Drawings.Sides.{Numbering}
-use Rattle.ideal_tri.proofs.Drawings.States.{Setting, pairings, numbering, to_closed, to_family, from_family}
+use Rattle.ideal_tri.proofs.Drawings.States.{Setting, pairings, numbering, to_family, from_family}
 
 module _ (triples : List (List ℤ)) (w : List ℕ) (given : Setting triples w) where
   abbrev s : Pairings State
@@ -59,7 +56,8 @@ module _ (triples : List (List ℤ)) (w : List ℕ) (given : Setting triples w) 
         rest = C.rest_of s q;
         begins = ap (λ (p : State). p ∷ C.rest_of s q) is;
         least =
-            All-weaker (λ p. leb (strand_number w q) (strand_number w p) ≡ true) (λ p. strand_number w start ≤ strand_number w p)
+            All-weaker (λ p. leb (strand_number w q) (strand_number w p) ≡ true)
+            (λ p. strand_number w start ≤ strand_number w p)
             (λ p e. omega (arith, leb-true (strand_number w q) (strand_number w p) e, ap (strand_number w) is))
             (curve_from triples w q) passes;
       }
@@ -67,9 +65,11 @@ module _ (triples : List (List ℤ)) (w : List ℕ) (given : Setting triples w) 
   pub draw_starts : All (BeginsAtLeast w) (draw triples w)
   draw_starts =
       All-map (BeginsAtLeast w) (curve_from triples w) (least_among triples w (strands w))
-      (All-weaker (F.IsFirst s n) (λ q. BeginsAtLeast w (curve_from triples w q)) begins_at_least (least_among triples w (strands w)) (FC.are_firsts s n))
+      (All-weaker (F.IsFirst s n) (λ q. BeginsAtLeast w (curve_from triples w q)) begins_at_least
+      (least_among triples w (strands w)) (FC.are_firsts s n))
 
-  numbers_of_firsts : (qs : List State) → map (first_number w) (map (curve_from triples w) qs) ≡ map (strand_number w) qs
+  numbers_of_firsts : (qs : List State)
+      → map (first_number w) (map (curve_from triples w) qs) ≡ map (strand_number w) qs
   numbers_of_firsts [] = refl
   numbers_of_firsts (q ∷ qs) = ap (λ (ks : List ℕ). strand_number w q ∷ ks) (numbers_of_firsts qs)
 
@@ -97,8 +97,10 @@ module _ (triples : List (List ℤ)) (w : List ℕ) (given : Setting triples w) 
       let once : L.uses s q (q ∷ run) ≤ 1 = h.once q v in
       let curve : q ∷ run ≡ curve_from triples w q = C.cycle_is s q run h.closed (omega arith) in
       let least : AllPass (λ p. leb (strand_number w q) (strand_number w p)) (q ∷ run) =
-      All-weaker (λ p. strand_number w start ≤ strand_number w p) (λ p. leb (strand_number w q) (strand_number w p) ≡ true)
-      (λ p e. le-leb (strand_number w q) (strand_number w p) (omega (arith, ap (strand_number w) is))) (q ∷ run) b.least in (
+      All-weaker (λ p. strand_number w start ≤ strand_number w p)
+      (λ p. leb (strand_number w q) (strand_number w p) ≡ true)
+      (λ p e. le-leb (strand_number w q) (strand_number w p)
+      (omega (arith, ap (strand_number w) is))) (q ∷ run) b.least in (
         record {
           side = subst (λ (p : State). O.count s p (strands w) ≢ 0) (sym is) (in_strands w b.edge b.place u.within);
           least =
@@ -114,7 +116,8 @@ module _ (triples : List (List ℤ)) (w : List ℕ) (given : Setting triples w) 
   from_firsts ((q ∷ run) ∷ runs) h b =
       let here : F.IsFirst s n q × (q ∷ run ≡ curve_from triples w q) =
       first_of_run q run (All-head (L.Simple s) (q ∷ run) runs h) (All-head (BeginsAtLeast w) (q ∷ run) runs b) in
-      let rest : FromFirsts runs = from_firsts runs (All-tail (L.Simple s) (q ∷ run) runs h) (All-tail (BeginsAtLeast w) (q ∷ run) runs b) in
+      let rest : FromFirsts runs =
+      from_firsts runs (All-tail (L.Simple s) (q ∷ run) runs h) (All-tail (BeginsAtLeast w) (q ∷ run) runs b) in
       record {
         states = q ∷ rest.states;
         first = All-cons (F.IsFirst s n) q rest.states here.0 rest.first;
@@ -153,7 +156,8 @@ module _ (triples : List (List ℤ)) (w : List ℕ) (given : Setting triples w) 
   same_curve run other (inl r) = inl (Rotation-map (λ (q : State). q.label) run other r)
   same_curve run other (inr r) =
       inr
-      (subst (λ (u : List ℤ). IsRotation u (word_of other)) (word-back run) (Rotation-map (λ (q : State). q.label) (R.back s run) other r))
+      (subst (λ (u : List ℤ). IsRotation u (word_of other)) (word-back run)
+      (Rotation-map (λ (q : State). q.label) (R.back s run) other r))
 
   pub drawings_alike : (runs others : List (List State)) → IsDrawing triples w runs → IsDrawing triples w others
       → IsSameCurves (words_of runs) (words_of others)
@@ -161,7 +165,8 @@ module _ (triples : List (List ℤ)) (w : List ℕ) (given : Setting triples w) 
     counts = λ c.
         count_by-map (is_same_curve c) word_of runs
         ∙ L.family_sums s (λ run. cond (is_same_curve c (word_of run)) 1 0)
-        (λ run other a. ap (λ (b : Bool). cond b 1 0) (is_same_curve-respects c (word_of run) (word_of other) (same_curve run other a)))
+        (λ run other a. ap (λ (b : Bool). cond b 1 0)
+        (is_same_curve-respects c (word_of run) (word_of other) (same_curve run other a)))
         runs others (to_family triples w given runs d) (to_family triples w given others e)
         ∙ sym (count_by-map (is_same_curve c) word_of others);
   }

@@ -1,6 +1,6 @@
 -- Drawings on the torus with one puncture, worked out.
-use Rattle.std.proofs.Common.{ℕ, ℤ, pos, negsuc, List, [], ◌∷◌, ◌≡◌, refl}
-use Rattle.ideal_tri.specs.Strands.{State, state_at, words_of}
+use Rattle.std.proofs.Common.{ℤ, pos, negsuc, List, [], ◌∷◌, ◌≡◌, refl}
+use Rattle.ideal_tri.specs.Strands.{words_of}
 use Rattle.ideal_tri.specs.Drawings.{draw}
 
 torus : List (List ℤ)

@@ -1,15 +1,15 @@
--- The cycles of the first sides: a family that uses each pair once, and the only one whose runs begin at their least things
--- and stand in rising order.
+-- The cycles of the first sides: a family that uses each pair once, and the only one whose runs begin at their least
+-- things and stand in rising order.
 --
--- Each thing is used by the cycle of exactly one first side. The runs of any family of this kind are the cycles of sides that
--- are first, and these are all of them, since each first side is used. Going through the sides in order, a side is first
--- exactly where no cycle so far uses it.
-use Rattle.std.proofs.Common.{ℕ, Bool, true, cond, List, [], ◌∷◌, ◌++◌, ◌≡◌, ◌≢◌, ◌≤◌, ◌<◌, ◌+◌, ◌⊎◌, ◌↔◌, inl, inr, refl, sym, ◌∙◌, ap, subst, arith, map}
+-- Each thing is used by the cycle of exactly one first side. The runs of any family of this kind are the cycles of
+-- sides that are first, and these are all of them, since each first side is used. Going through the sides in order, a
+-- side is first exactly where no cycle so far uses it.
+use Rattle.std.proofs.Common.{true, cond, List, [], ◌∷◌, ◌≡◌, ◌≢◌, ◌≤◌, inl, inr, refl, sym, ◌∙◌, ap, arith, map}
 use Rattle.std.specs.List.{All, sum_by, filter}
-use Rattle.std.proofs.lemmas.Bool.{cases_Bool, cases_eq}
+use Rattle.std.proofs.lemmas.Bool.{cases_eq}
 use Rattle.std.proofs.lemmas.List.Elements.{All-map, All-weaker, All-filter, filter_passes}
 use Rattle.std.proofs.lemmas.List.Sums.{sum_by-cons}
-use Rattle.ideal_tri.proofs.Drawings.Tallies.{count_by-cons, count_by-append, sum_by-agree, one_if, none_if}
+use Rattle.ideal_tri.proofs.Drawings.Tallies.{count_by-cons, sum_by-agree, one_if, none_if}
 use Rattle.ideal_tri.proofs.Drawings.Rising.{Rising, rising-filter}
 use Rattle.ideal_tri.proofs.Drawings.Orbits as O
 use Rattle.ideal_tri.proofs.Drawings.Orbits.{Pairings}
@@ -46,7 +46,8 @@ module _ {A : Type 0} (s : Pairings A) (n : Numbering s) where
 
       least : (x : A) → O.count s x firsts ≢ 0 → F.is_least s n x (C.cycle s x) ≡ true
       least x some =
-          O.All-counted s (λ y. F.is_least s n y (C.cycle s y) ≡ true) x firsts (filter_passes (λ y. F.is_least s n y (C.cycle s y)) s.sides) some
+          O.All-counted s (λ y. F.is_least s n y (C.cycle s y) ≡ true) x firsts
+          (filter_passes (λ y. F.is_least s n y (C.cycle s y)) s.sides) some
 
   pub firsts_rising : Rising n.number firsts
   firsts_rising = rising-filter n.number (λ x. F.is_least s n x (C.cycle s x)) s.sides n.rising
@@ -82,7 +83,9 @@ module _ {A : Type 0} (s : Pairings A) (n : Numbering s) where
       each : (y : A) → F.IsFirst s n y → L.uses s x (C.cycle s y) ≡ cond (s.same m.at y) 1 0
       each y f =
           elim (O.same_or_other s m.at y) [
-            | inl e ↦ ap (λ (z : A). L.uses s x (C.cycle s z)) (sym e) ∙ own ∙ sym (one_if (s.same m.at y) (O.same-true s m.at y e))
+            | inl e ↦
+                ap (λ (z : A). L.uses s x (C.cycle s z)) (sym e) ∙ own ∙ sym
+                (one_if (s.same m.at y) (O.same-true s m.at y e))
             | inr ne ↦ unused y f ne ∙ sym (none_if (s.same m.at y) (O.same-false s m.at y ne))
           ]
         where
@@ -113,11 +116,13 @@ module _ {A : Type 0} (s : Pairings A) (n : Numbering s) where
   -- ---- no other
 
   -- one of the cycles uses what they use together
-  user : (x : A) (xs : List A) → L.uses s x (L.joined s (cycles xs)) ≢ 0 → (y : A) × (O.count s y xs ≢ 0) × (L.uses s x (C.cycle s y) ≢ 0)
+  pub user : (x : A) (xs : List A) → L.uses s x (L.joined s (cycles xs)) ≢ 0
+      → (y : A) × (O.count s y xs ≢ 0) × (L.uses s x (C.cycle s y) ≢ 0)
   user x [] some = absurd (some refl)
   user x (y ∷ ys) some =
       elim (cases_eq (L.uses s x (C.cycle s y)) 0) [
-        | inl none ↦ later (user x ys (λ gone. some (omega (arith, L.uses-append s x (C.cycle s y) (L.joined s (cycles ys))))))
+        | inl none ↦
+            later (user x ys (λ gone. some (omega (arith, L.uses-append s x (C.cycle s y) (L.joined s (cycles ys))))))
         | inr here ↦ (y, λ none. omega (arith, O.count-same s y y ys refl), here)
       ]
     where
@@ -138,106 +143,3 @@ module _ {A : Type 0} (s : Pairings A) (n : Numbering s) where
           let (y, some, used) = user z xs (all z (F.first_valid s n z g)) in
           let same : z ≡ y = F.first_unique s n z y g (O.All-counted s (F.IsFirst s n) y xs f some) used in
           λ none. some (ap (λ (w : A). O.count s w xs) (sym same) ∙ none)
-
-  -- ---- going through the sides in order
-
-  before_it : (x y : A) (front rest : List A) → Rising n.number (front ++ (x ∷ rest)) → O.count s y front ≢ 0 → n.number y < n.number x
-  before_it x y [] rest r some = absurd (some refl)
-  before_it x y (z ∷ front) rest r some =
-      elim (O.count-cases s y z front some) [
-        | inl e ↦
-            (let there : O.count s x (front ++ (x ∷ rest)) ≢ 0 =
-            λ none. omega (arith, count_by-append (s.same x) front (x ∷ rest), O.count-same s x x rest refl) in
-            omega (arith, S.above s n z x (front ++ (x ∷ rest)) r there, ap n.number e))
-        | inr later ↦ before_it x y front rest r.1 later
-      ]
-
-  after_it : (x y : A) (front rest : List A) → Rising n.number (front ++ (x ∷ rest)) → O.count s y (front ++ (x ∷ rest)) ≢ 0
-      → n.number y < n.number x → O.count s y front ≢ 0
-  after_it x y [] rest r some less none =
-      elim (O.count-cases s y x rest some) [
-        | inl e ↦ absurd (omega (arith, ap n.number e))
-        | inr later ↦ absurd (omega (arith, S.above s n x y rest r later))
-      ]
-  after_it x y (z ∷ front) rest r some less none =
-      elim (O.count-cases s y z (front ++ (x ∷ rest)) some) [
-        | inl e ↦ omega (arith, O.count-same s y z front e)
-        | inr later ↦ after_it x y front rest r.1 later less (omega (arith, count_by-cons (s.same y) z front))
-      ]
-
-  uses-among : (x y : A) (xs : List A) → O.count s y xs ≢ 0 → L.uses s x (C.cycle s y) ≢ 0 → L.uses s x (L.joined s (cycles xs)) ≢ 0
-  uses-among x y [] some used none = absurd (some refl)
-  uses-among x y (z ∷ zs) some used none =
-      let both : L.uses s x (L.joined s (cycles (z ∷ zs))) ≡ L.uses s x (C.cycle s z) + L.uses s x (L.joined s (cycles zs)) =
-      L.uses-append s x (C.cycle s z) (L.joined s (cycles zs)) in
-      elim (O.count-cases s y z zs some) [
-        | inl e ↦ used (ap (λ (u : A). L.uses s x (C.cycle s u)) e ∙ omega arith)
-        | inr later ↦ uses-among x y zs later used (omega arith)
-      ]
-
-  -- the first sides of a part of the list
-  abbrev pub firsts_among : List A → List A
-  firsts_among xs = filter (λ x. F.is_least s n x (C.cycle s x)) xs
-
-  -- a side is first exactly where no cycle from a first side before it uses it
-  module _ (x : A) (front rest : List A) (is : s.sides ≡ front ++ (x ∷ rest)) where
-    rises : Rising n.number (front ++ (x ∷ rest))
-    rises = subst (Rising n.number) is n.rising
-
-    side : O.count s x s.sides ≢ 0
-    side none =
-        omega (
-          arith,
-          ap (O.count s x) is,
-          count_by-append (s.same x) front (x ∷ rest),
-          O.count-same s x x rest refl,
-        )
-
-    unused_if_first : F.is_least s n x (C.cycle s x) ≡ true → L.uses s x (L.joined s (cycles (firsts_among front))) ≡ 0
-    unused_if_first e =
-        elim (cases_eq (L.uses s x (L.joined s (cycles (firsts_among front)))) 0) [ inl none ↦ none | inr some ↦ absurd (clash some) ]
-      where
-        clash : L.uses s x (L.joined s (cycles (firsts_among front))) ≢ 0 → ⊥
-        clash some =
-            let (y, there, used) = user x (firsts_among front) some in
-            let passes : F.is_least s n y (C.cycle s y) ≡ true =
-            O.All-counted s (λ z. F.is_least s n z (C.cycle s z) ≡ true) y (firsts_among front)
-            (filter_passes (λ z. F.is_least s n z (C.cycle s z)) front) there in
-            let early : O.count s y front ≢ 0 =
-            λ none. there (S.count-filter s (λ z. F.is_least s n z (C.cycle s z)) y front passes ∙ none) in
-            let listed : O.count s y s.sides ≢ 0 =
-            λ none. early (omega (arith, ap (O.count s y) is, count_by-append (s.same y) front (x ∷ rest))) in
-            let same : x ≡ y =
-            F.first_unique s n x y (record { side = side; least = e }) (record { side = listed; least = passes }) used in
-            omega (arith, before_it x y front rest rises early, ap n.number same)
-
-    first_if_unused : L.uses s x (L.joined s (cycles (firsts_among front))) ≡ 0 → F.is_least s n x (C.cycle s x) ≡ true
-    first_if_unused none = go (F.first_of s n x v)
-      where
-        v : s.Valid x
-        v = F.side_valid s n x side
-
-        go : F.FirstOf s n x → F.is_least s n x (C.cycle s x) ≡ true
-        go m =
-            elim (O.same_or_other s m.at x) [
-              | inl e ↦ subst (λ (y : A). F.is_least s n y (C.cycle s y) ≡ true) e m.first.least
-              | inr ne ↦ absurd (clash m ne)
-            ]
-          where
-            clash : (m : F.FirstOf s n x) → m.at ≢ x → ⊥
-            clash m ne =
-                let u : s.Valid m.at = F.first_valid s n m.at m.first in
-                let same : L.uses s x (C.cycle s x) ≡ L.uses s x (C.cycle s m.at) =
-                L.uses-cycle s m.at (C.cycle s x) u (L.cycle_simple s x v) m.used x v in
-                let used : L.uses s x (C.cycle s m.at) ≢ 0 = λ gone. L.uses_own_cycle s x (same ∙ gone) in
-                let lower : n.number m.at ≤ n.number x = F.least_number s n m.at x (C.cycle s m.at) m.first.least v used in
-                let other : n.number m.at ≢ n.number x =
-                λ e. ne (S.rising_injective s n m.at x s.sides n.rising m.first.side side e) in
-                let early : O.count s m.at front ≢ 0 =
-                after_it x m.at front rest rises (subst (λ (zs : List A). O.count s m.at zs ≢ 0) is m.first.side) (omega arith) in
-                uses-among x m.at (firsts_among front)
-                (λ gone. early (sym (S.count-filter s (λ z. F.is_least s n z (C.cycle s z)) m.at front m.first.least) ∙ gone))
-                used none
-
-    pub first_unless_used : (F.is_least s n x (C.cycle s x) ≡ true) ↔ (L.uses s x (L.joined s (cycles (firsts_among front))) ≡ 0)
-    first_unless_used = (unused_if_first, first_if_unused)

@@ -1,8 +1,8 @@
 -- First sides: those whose cycles have no thing of a lesser number.
 --
--- Of each pair of opposite things one is a side, and the sides rise by their numbers. The cycle of any thing uses exactly one
--- first side: the least thing in it, or its opposite.
-use Rattle.std.proofs.Common.{ℕ, Bool, true, leb, List, [], ◌∷◌, ◌≡◌, ◌≢◌, ◌≤◌, ◌<◌, ◌+◌, ◌⊎◌, inl, inr, refl, sym, ◌∙◌, ap, arith}
+-- Of each pair of opposite things one is a side, and the sides rise by their numbers. The cycle of any thing uses
+-- exactly one first side: the least thing in it, or its opposite.
+use Rattle.std.proofs.Common.{Bool, true, leb, List, [], ◌∷◌, ◌≡◌, ◌≢◌, ◌≤◌, inl, inr, refl, ◌∙◌, arith}
 use Rattle.std.specs.List.{All, AllPass, list_all}
 use Rattle.std.proofs.lemmas.Bool.{cases_lt, cases_eq, leb-true, le-leb}
 use Rattle.std.proofs.lemmas.List.Elements.{All-nil, All-cons, All-weaker}
@@ -21,11 +21,14 @@ module _ {A : Type 0} (s : Pairings A) (n : Numbering s) where
   abbrev pub is_least : A → List A → Bool
   is_least x run = list_all (λ y. leb (n.number x) (n.number y)) run
 
-  pub least_number : (x y : A) (run : List A) → is_least x run ≡ true → s.Valid y → L.uses s y run ≢ 0 → n.number x ≤ n.number y
+  pub least_number : (x y : A) (run : List A) → is_least x run ≡ true → s.Valid y → L.uses s y run ≢ 0
+      → n.number x ≤ n.number y
   least_number x y run e v some =
-      let passes : AllPass (λ z. leb (n.number x) (n.number z)) run = AllPass-from_list_all (λ z. leb (n.number x) (n.number z)) run e in
+      let passes : AllPass (λ z. leb (n.number x) (n.number z)) run =
+      AllPass-from_list_all (λ z. leb (n.number x) (n.number z)) run e in
       let at : (z : A) → O.count s z run ≢ 0 → n.number x ≤ n.number z =
-      λ z here. leb-true (n.number x) (n.number z) (O.All-counted s (λ u. leb (n.number x) (n.number u) ≡ true) z run passes here) in
+      λ z here. leb-true (n.number x) (n.number z)
+      (O.All-counted s (λ u. leb (n.number x) (n.number u) ≡ true) z run passes here) in
       elim (cases_eq (O.count s y run) 0) [
         | inl none ↦ omega (arith, at (s.opposite y) (λ gone. some (omega arith)), n.opposite_number y v)
         | inr here ↦ at y here
@@ -47,7 +50,8 @@ module _ {A : Type 0} (s : Pairings A) (n : Numbering s) where
       let v : s.Valid x = first_valid x f in
       let u : s.Valid y = first_valid y g in
       let forth : n.number y ≤ n.number x = least_number y x (C.cycle s y) g.least v some in
-      let same : L.uses s y (C.cycle s y) ≡ L.uses s y (C.cycle s x) = L.uses-cycle s x (C.cycle s y) v (L.cycle_simple s y u) some y u in
+      let same : L.uses s y (C.cycle s y) ≡ L.uses s y (C.cycle s x) =
+      L.uses-cycle s x (C.cycle s y) v (L.cycle_simple s y u) some y u in
       let used : L.uses s y (C.cycle s x) ≢ 0 = λ none. L.uses_own_cycle s y (same ∙ none) in
       let back : n.number x ≤ n.number y = least_number x y (C.cycle s x) f.least u used in
       S.rising_injective s n x y s.sides n.rising f.side g.side (omega arith)
@@ -81,7 +85,8 @@ module _ {A : Type 0} (s : Pairings A) (n : Numbering s) where
                   here = λ none. omega (arith, O.count-same s x x (y ∷ ys) refl);
                   least =
                       All-cons (λ z. n.number x ≤ n.number z) x (y ∷ ys) (omega arith)
-                      (All-weaker (λ z. n.number l.at ≤ n.number z) (λ z. n.number x ≤ n.number z) (λ z c. omega arith) (y ∷ ys) l.least);
+                      (All-weaker (λ z. n.number l.at ≤ n.number z) (λ z. n.number x ≤ n.number z) (λ z c. omega arith)
+                      (y ∷ ys) l.least);
                 }
           ]
 
@@ -107,7 +112,8 @@ module _ {A : Type 0} (s : Pairings A) (n : Numbering s) where
 
       passes : (z : A) → O.count s z (C.cycle s m) ≢ 0 → leb (n.number m) (n.number z) ≡ true
       passes z here =
-          let w : s.Valid z = O.All-counted s s.Valid z (C.cycle s m) (R.closed_valid s (C.cycle s m) (C.cycle_closed s m u)) here in
+          let w : s.Valid z =
+          O.All-counted s s.Valid z (C.cycle s m) (R.closed_valid s (C.cycle s m) (C.cycle_closed s m u)) here in
           let same : L.uses s z (C.cycle s x) ≡ L.uses s z (C.cycle s m) =
           L.uses-cycle s m (C.cycle s x) u (L.cycle_simple s x v) used z w in
           le-leb (n.number m) (n.number z) (lower z w (λ none. here (omega arith)))
@@ -121,7 +127,8 @@ module _ {A : Type 0} (s : Pairings A) (n : Numbering s) where
     where
       go : Least (C.cycle s x) → FirstOf x
       go l =
-          let w : s.Valid l.at = O.All-counted s s.Valid l.at (C.cycle s x) (R.closed_valid s (C.cycle s x) (C.cycle_closed s x v)) l.here in
+          let w : s.Valid l.at =
+          O.All-counted s s.Valid l.at (C.cycle s x) (R.closed_valid s (C.cycle s x) (C.cycle_closed s x v)) l.here in
           let lower : (z : A) → O.count s z (C.cycle s x) ≢ 0 → n.number l.at ≤ n.number z =
           λ z here. O.All-counted s (λ u. n.number l.at ≤ n.number u) z (C.cycle s x) l.least here in
           elim (s.covers l.at w) [

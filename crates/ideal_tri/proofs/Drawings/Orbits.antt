@@ -1,16 +1,16 @@
 -- Two pairings of finitely many things, and the walks that use them in turn.
 --
--- Each thing has an opposite one and one across; going back is the same map again, and nothing is its own partner. A step
--- goes to the opposite thing and then across. Steps are injective, so the values from q on are different until q comes back,
--- and there are only so many things: q does come back. What stands before it is the cycle of q.
-use Rattle.std.proofs.Common.{ℕ, zero, suc, Bool, true, false, cond, List, [], ◌∷◌, ◌++◌, ◌≡◌, ◌≢◌, ◌≤◌, ◌+◌, ◌*◌, ◌⊎◌, inl, inr, refl, sym, ◌∙◌, ap, subst, arith, length, length-append, map}
+-- Each thing has an opposite one and one across; going back is the same map again, and nothing is its own partner. A
+-- step goes to the opposite thing and then across. Steps are injective, so the values from q on are different until q
+-- comes back, and there are only so many things: q does come back. What stands before it is the cycle of q.
+use Rattle.std.proofs.Common.{ℕ, zero, suc, Bool, true, false, cond, List, [], ◌∷◌, ◌++◌, ◌≡◌, ◌≢◌, ◌≤◌, ◌+◌, ◌⊎◌, inl, inr, refl, sym, ◌∙◌, ap, subst, arith, length, length-append, map}
 use Rattle.std.specs.Bool.{Decides}
-use Rattle.std.specs.List.{All, count_by, before_first}
-use Rattle.std.proofs.lemmas.Bool.{cases_Bool, cases_eq}
+use Rattle.std.specs.List.{All, count_by}
+use Rattle.std.proofs.lemmas.Bool.{cases_Bool}
 use Rattle.std.proofs.lemmas.Bool.Decides.{not_from_Decides}
 use Rattle.std.proofs.lemmas.List.Elements.{All-nil, All-cons, All-head, All-tail}
 use Rattle.ideal_tri.specs.Drawings.{orbit}
-use Rattle.ideal_tri.proofs.Drawings.Tallies.{All-back, All-front, Split, split, count_by-cons, count_by-yes, count_by-no, count_by-append, count_by-split}
+use Rattle.ideal_tri.proofs.Drawings.Tallies.{Split, split, count_by-cons, count_by-yes, count_by-no, count_by-split}
 
 pub record Pairings (A : Type 0) : Type 1 where
   pub same : A → A → Bool
@@ -70,7 +70,8 @@ module _ {A : Type 0} (s : Pairings A) where
       ]
 
   -- elements that stand no more often than in another list are no more
-  pub no_longer : (P : A → Type 0) (xs ys : List A) → All P xs → ((x : A) → P x → count x xs ≤ count x ys) → length xs ≤ length ys
+  pub no_longer : (P : A → Type 0) (xs ys : List A) → All P xs → ((x : A) → P x → count x xs ≤ count x ys)
+      → length xs ≤ length ys
   no_longer P [] ys h fewer = omega arith
   no_longer P (x ∷ xs) ys h fewer =
       let px : P x = All-head P x xs h in
@@ -80,7 +81,8 @@ module _ {A : Type 0} (s : Pairings A) where
       let rest : length xs ≤ length (t.before ++ t.after) =
       no_longer P xs (t.before ++ t.after) (All-tail P x xs h)
       (λ z pz.
-      let here : ◌≡◌ {A = ℕ} (cond (s.same z x) 1 0) (cond (s.same z t.here) 1 0) = ap (λ (y : A). cond (s.same z y) 1 0) it in
+      let here : ◌≡◌ {A = ℕ} (cond (s.same z x) 1 0) (cond (s.same z t.here) 1 0) =
+      ap (λ (y : A). cond (s.same z y) 1 0) it in
       omega (
         arith,
         fewer z pz,
@@ -101,7 +103,8 @@ module _ {A : Type 0} (s : Pairings A) where
   pub step_injective : (x y : A) → s.Valid x → s.Valid y → step x ≡ step y → x ≡ y
   step_injective x y v u e =
       let across : s.opposite x ≡ s.opposite y =
-      sym (s.cross_back (s.opposite x) (s.opposite_valid x v)) ∙ ap s.cross e ∙ s.cross_back (s.opposite y) (s.opposite_valid y u) in
+      sym (s.cross_back (s.opposite x) (s.opposite_valid x v)) ∙ ap s.cross e ∙ s.cross_back (s.opposite y)
+      (s.opposite_valid y u) in
       sym (s.opposite_back x v) ∙ ap s.opposite across ∙ s.opposite_back y u
 
   -- the step back from the other side
@@ -149,19 +152,31 @@ module _ {A : Type 0} (s : Pairings A) where
       )
 
   -- as long as x doesn't come back, nothing does
-  pub orbit_once : (n : ℕ) (x : A) → s.Valid x → count x (orbit step n (step x)) ≡ 0 → (y : A) → count y (orbit step (suc n) x) ≤ 1
+  pub orbit_once : (n : ℕ) (x : A) → s.Valid x → count x (orbit step n (step x)) ≡ 0 → (y : A)
+      → count y (orbit step (suc n) x) ≤ 1
   orbit_once zero x v none y =
       let one : count y (x ∷ []) ≡ cond (s.same y x) 1 0 + 0 = count_by-cons (s.same y) x [] in
-      elim (same_or_other y x) [ inl e ↦ omega (arith, count-same y x [] e) | inr ne ↦ omega (arith, count-other y x [] ne) ]
+      elim (same_or_other y x) [
+        | inl e ↦ omega (
+          arith,
+          count-same y x [] e,
+        )
+        | inr ne ↦ omega (arith, count-other y x [] ne)
+      ]
   orbit_once (suc n) x v none y =
       elim (same_or_other y x) [
         | inl e ↦
-            (let here : count y (orbit step (suc n) (step x)) ≡ 0 = ap (λ (z : A). count z (orbit step (suc n) (step x))) e ∙ none in
+            (let here : count y (orbit step (suc n) (step x)) ≡ 0 = ap
+            (λ (z : A). count z (orbit step (suc n) (step x))) e ∙ none in
             omega (arith, count-same y x (orbit step (suc n) (step x)) e))
         | inr ne ↦
             (let gone : count (step x) (orbit step n (step (step x))) ≡ 0 =
             ap (count (step x)) (orbit-step n (step x))
             ∙ count-step x (orbit step n (step x)) v (orbit_valid n (step x) (step_valid x v))
             ∙ omega (arith, orbit-longer n (step x) x) in
-            omega (arith, count-other y x (orbit step (suc n) (step x)) ne, orbit_once n (step x) (step_valid x v) gone y))
+            omega (
+              arith,
+              count-other y x (orbit step (suc n) (step x)) ne,
+              orbit_once n (step x) (step_valid x v) gone y,
+            ))
       ]

@@ -1,9 +1,9 @@
 -- Lists that rise by a number: parts of them, and two with the same elements.
-use Rattle.std.proofs.Common.{ℕ, zero, suc, Bool, true, false, cond, List, [], ◌∷◌, ◌≡◌, ◌≢◌, ◌≤◌, ◌<◌, ◌+◌, refl, sym, ◌∙◌, ap, subst, arith, length, map}
+use Rattle.std.proofs.Common.{ℕ, zero, suc, Bool, true, false, cond, List, [], ◌∷◌, ◌≡◌, ◌<◌, ◌+◌, sym, subst, arith, map}
 use Rattle.std.specs.Prelude.{slice_index}
 use Rattle.std.specs.List.{All, filter}
 use Rattle.std.specs.List.Sorted.{IsStrictlyIncreasing}
-use Rattle.std.proofs.lemmas.List.Elements.{All-nil, All-cons, All-head, All-tail, All-weaker, All-filter}
+use Rattle.std.proofs.lemmas.List.Elements.{All-nil, All-cons, All-head, All-weaker, All-filter}
 
 module _ {A : Type 0} (number : A → ℕ) where
   abbrev pub Rising : List A → Type 0
@@ -41,4 +41,5 @@ module _ {A : Type 0} (number : A → ℕ) where
       later : IsStrictlyIncreasing (map number (y ∷ xs))
       later k b =
           let more : suc k + 1 ≡ suc (k + 1) = omega arith in
-          subst (λ (j : ℕ). slice_index (map number (y ∷ xs)) k < slice_index (map number (x ∷ (y ∷ xs))) j) more (h (suc k) (omega arith))
+          subst (λ (j : ℕ). slice_index (map number (y ∷ xs)) k < slice_index (map number (x ∷ (y ∷ xs))) j) more
+          (h (suc k) (omega arith))

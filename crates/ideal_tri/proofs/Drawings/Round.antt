@@ -1,9 +1,10 @@
--- A drawing has a word, and none that runs round a vertex, exactly where something is crossed and each vertex has a corner
--- without strands.
+-- A drawing has a word, and none that runs round a vertex, exactly where something is crossed and each vertex has a
+-- corner without strands.
 --
--- Where all corners of a vertex have strands, the innermost of them, at place 0, keeps that place as it turns from corner to
--- corner. So its curve runs round the vertex, and the drawing has it, or its way back, which turns the other way.
-use Rattle.std.proofs.Common.{ℕ, zero, suc, ℤ, List, [], ◌∷◌, ◌++◌, ◌≡◌, ◌≢◌, ◌≤◌, ◌<◌, ◌+◌, ◌⊎◌, ◌↔◌, inl, inr, refl, sym, ◌∙◌, ap, subst, arith}
+-- Where all corners of a vertex have strands, the innermost of them, at place 0, keeps that place as it turns from
+-- corner to corner. So its curve runs round the vertex, and the drawing has it, or its way back, which turns the other
+-- way.
+use Rattle.std.proofs.Common.{ℕ, zero, suc, ℤ, List, [], ◌∷◌, ◌≡◌, ◌≢◌, ◌<◌, ◌⊎◌, ◌↔◌, inl, inr, refl, sym, ◌∙◌, ap, subst, arith}
 use Rattle.std.specs.List.{All}
 use Rattle.std.proofs.lemmas.Bool.{cases_eq}
 use Rattle.std.proofs.lemmas.List.Elements.{All-nil, All-cons, All-head, All-tail, All-map, All-weaker}
@@ -12,7 +13,7 @@ use Rattle.ideal_tri.specs.Triangulations.{IsLabel, next, previous}
 use Rattle.ideal_tri.specs.Vectors.{corner_count}
 use Rattle.ideal_tri.specs.Strands.{State, state_at, IsStrand, opposite, strand_step, IsDrawing, word_of, words_of}
 use Rattle.ideal_tri.specs.Peripheral.{TurnsOn, TurnsBack, IsPeripheral}
-use Rattle.ideal_tri.specs.Vertices.{corner_step, corner_after, IsSameVertex}
+use Rattle.ideal_tri.specs.Vertices.{corner_step, corner_after}
 use Rattle.ideal_tri.specs.PeripheralParts.{IsNonperipheral, HasFreeCorners, least_count}
 use Rattle.ideal_tri.proofs.Labels.{inverse-inverse, inverse_label}
 use Rattle.ideal_tri.proofs.Rotations.{Rotation-sym, Rotation-keeps}
@@ -110,11 +111,13 @@ module _ (triples : List (List ℤ)) (w : List ℕ) (given : Setting triples w) 
           let twice : O.count s (opposite w (opposite w (step p))) run ≡ O.count s (step p) run =
           ap (λ (q : State). O.count s q run) (T.opposite_back triples w (step p) u) in
           let seen : O.count s (opposite w (step p)) (R.back s run) ≢ 0 =
-          λ none. more (omega (arith, R.count-back s (opposite w (step p)) run (T.opposite_valid triples w (step p) u) valid)) in
+          λ none. more
+          (omega (arith, R.count-back s (opposite w (step p)) run (T.opposite_valid triples w (step p) u) valid)) in
           let from : (step (opposite w (step p))).label ≡ next triples (inverse (inverse (step p).label)) =
           O.All-counted s On (opposite w (step p)) (R.back s run) on seen in
           let back : inverse p.label ≡ next triples (step p).label =
-          sym (ap (λ (q : State). q.label) (O.step_back s p v)) ∙ from ∙ ap (next triples) (inverse-inverse (step p).label) in
+          sym (ap (λ (q : State). q.label) (O.step_back s p v)) ∙ from ∙ ap (next triples)
+          (inverse-inverse (step p).label) in
           sym (ap (previous triples) back ∙ given.laws.round (step p).label u.is_label)
 
   word_some : (run : List State) → run ≢ [] → word_of run ≢ []
@@ -141,18 +144,21 @@ module _ (triples : List (List ℤ)) (w : List ℕ) (given : Setting triples w) 
           inr
           (N.closed_from_steps triples w given (λ x y. y ≡ previous triples (inverse x)) run h.closed
           (turns_back run h.closed
-          (Rotation-keeps On (C.cycle s (innermost x)) (R.back s run) (Rotation-sym (R.back s run) (C.cycle s (innermost x)) r) turns)))
+          (Rotation-keeps On (C.cycle s (innermost x)) (R.back s run)
+          (Rotation-sym (R.back s run) (C.cycle s (innermost x)) r) turns)))
 
   -- ---- the criterion
 
   -- of the runs together, one uses what they use
-  user : (P : List State → Type 0) (q : State) (runs : List (List State)) → All P runs → L.uses s q (L.joined s runs) ≢ 0
+  user : (P : List State → Type 0) (q : State) (runs : List (List State)) → All P runs
+      → L.uses s q (L.joined s runs) ≢ 0
       → (run : List State) × P run × (L.uses s q run ≢ 0)
   user P q [] h some = absurd (some refl)
   user P q (run ∷ runs) h some =
       elim (cases_eq (L.uses s q run) 0) [
         | inl none ↦
-            user P q runs (All-tail P run runs h) (λ gone. some (omega (arith, L.uses-append s q run (L.joined s runs))))
+            user P q runs (All-tail P run runs h) (λ gone. some
+            (omega (arith, L.uses-append s q run (L.joined s runs))))
         | inr here ↦ (run, All-head P run runs h, here)
       ]
 
@@ -164,14 +170,17 @@ module _ (triples : List (List ℤ)) (w : List ℕ) (given : Setting triples w) 
   abbrev Wanders : List State → Type 0
   Wanders run = L.Simple s run × ¬ IsPeripheral triples (word_of run)
 
-  wandering : (runs : List (List State)) → All (L.Simple s) runs → All (λ word. ¬ IsPeripheral triples word) (words_of runs) → All Wanders runs
+  wandering : (runs : List (List State)) → All (L.Simple s) runs
+      → All (λ word. ¬ IsPeripheral triples word) (words_of runs) → All Wanders runs
   wandering [] h k = All-nil Wanders
   wandering (run ∷ runs) h k =
       All-cons Wanders run runs
       (All-head (L.Simple s) run runs h, All-head (λ word. ¬ IsPeripheral triples word) (word_of run) (words_of runs) k)
-      (wandering runs (All-tail (L.Simple s) run runs h) (All-tail (λ word. ¬ IsPeripheral triples word) (word_of run) (words_of runs) k))
+      (wandering runs (All-tail (L.Simple s) run runs h)
+      (All-tail (λ word. ¬ IsPeripheral triples word) (word_of run) (words_of runs) k))
 
-  free_corners : (runs : List (List State)) → IsDrawing triples w runs → All (λ word. ¬ IsPeripheral triples word) (words_of runs)
+  free_corners : (runs : List (List State)) → IsDrawing triples w runs
+      → All (λ word. ¬ IsPeripheral triples word) (words_of runs)
       → HasFreeCorners triples w
   free_corners runs d k x l =
       elim (cases_eq (least_count triples w x) 0) [
@@ -187,7 +196,8 @@ module _ (triples : List (List ℤ)) (w : List ℕ) (given : Setting triples w) 
           let round : HasStrandsRound x =
           λ n. omega (
             arith,
-            least_count_least triples given.laws w x (corner_after triples n x) l (record { steps = n; reached = refl }),
+            least_count_least triples given.laws w x (corner_after triples n x) l
+                (record { steps = n; reached = refl }),
           ) in
           let v : IsStrand triples w (innermost x) = innermost_valid x l (round 0) in
           let (run, wanders, used) = user Wanders (innermost x) runs (wandering runs (L.family_simple s runs family) k)
@@ -205,6 +215,7 @@ module _ (triples : List (List ℤ)) (w : List ℕ) (given : Setting triples w) 
       some = λ e. h.0 ((drawing_none triples w given runs d).0 (words_nil runs e));
       none_round =
           All-map (λ word. ¬ IsPeripheral triples word) word_of runs
-          (All-weaker (R.Closed s) (λ run. ¬ IsPeripheral triples (word_of run)) (N.none_round triples w given h.1) runs (to_family triples w given runs d).closed);
+          (All-weaker (R.Closed s) (λ run. ¬ IsPeripheral triples (word_of run)) (N.none_round triples w given h.1) runs
+          (to_family triples w given runs d).closed);
     },
   )

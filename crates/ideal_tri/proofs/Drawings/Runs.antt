@@ -1,22 +1,28 @@
--- Runs: things in a row, each the step of the one before. They join, turn back, and from each thing one run comes back.
-use Rattle.std.proofs.Common.{ℕ, zero, suc, Bool, true, false, cond, not, List, [], ◌∷◌, ◌++◌, ◌≡◌, ◌≢◌, ◌≤◌, ◌<◌, ◌+◌, ◌*◌, ◌⊎◌, inl, inr, refl, sym, ◌∙◌, ap, subst, append_assoc, arith, length, length-append, map, take, one-add}
-use Rattle.std.specs.List.{All, count_by, before_first, prefix_len}
-use Rattle.std.proofs.lemmas.Bool.{cases_Bool, cases_eq}
-use Rattle.std.proofs.lemmas.List.{length-map, append-nil}
+-- Runs: things in a row, each the step of the one before.
+--
+-- Runs join, and two runs from one thing agree as long as neither ends. The way back of a run lists the opposite things
+-- in reverse order; it is a run since the step from the opposite of a step leads to the opposite. A closed run ends
+-- where it begins: it stays closed when it begins at another of its places, and its way back is closed. It passes a
+-- thing as often as its step, since with its first thing at the end it is the list of its steps.
+use Rattle.std.proofs.Common.{Bool, true, false, cond, not, List, [], ◌∷◌, ◌++◌, ◌≡◌, ◌≢◌, ◌<◌, ◌+◌, ◌⊎◌, inl, inr, refl, sym, ◌∙◌, ap, subst, arith, length, length-append, map, take, one-add}
+use Rattle.std.specs.List.{All, before_first, prefix_len}
 use Rattle.std.proofs.lemmas.List.Elements.{All-nil, All-cons, All-head, All-tail, All-append}
 use Rattle.ideal_tri.specs.Words.{IsRotation}
 use Rattle.ideal_tri.specs.Drawings.{orbit}
 use Rattle.ideal_tri.proofs.Rotations.{Rotation-steps}
-use Rattle.ideal_tri.proofs.Drawings.Tallies.{All-back, All-front, count_by-cons, count_by-append}
+use Rattle.ideal_tri.proofs.Drawings.Tallies.{count_by-cons, count_by-append}
 use Rattle.ideal_tri.proofs.Drawings.Orbits as O
 use Rattle.ideal_tri.proofs.Drawings.Orbits.{Pairings}
 
 -- ---- what stands before the first element that passes
 
-pub before_first-cons : {A : Type 0} (p : A → Bool) (x : A) (xs : List A) → before_first p (x ∷ xs) ≡ cond (p x) [] (x ∷ before_first p xs)
+pub before_first-cons : {A : Type 0} (p : A → Bool) (x : A) (xs : List A)
+    → before_first p (x ∷ xs) ≡ cond (p x) [] (x ∷ before_first p xs)
 before_first-cons p x xs = go (p x) refl
   where
-    go : (b : Bool) → p x ≡ b → take (cond (not (p x)) (1 + prefix_len (λ y. not (p y)) xs) 0) (x ∷ xs) ≡ cond (p x) [] (x ∷ before_first p xs)
+    go : (b : Bool) → p x ≡ b
+        → take (cond (not (p x)) (1 + prefix_len (λ y. not (p y)) xs) 0) (x ∷ xs)
+        ≡ cond (p x) [] (x ∷ before_first p xs)
     go true e = rw e refl
     go false e = rw (e, one-add) refl
 
@@ -41,7 +47,8 @@ module _ {A : Type 0} (s : Pairings A) where
 
   pub runs_orbit : (x y : A) (run : List A) → Runs x run y → run ≡ orbit step (length run) x
   runs_orbit x y [] h = refl
-  runs_orbit x y (u ∷ run) h = ap (λ (z : A). z ∷ run) h.0 ∙ ap (λ (zs : List A). x ∷ zs) (runs_orbit (step x) y run h.1)
+  runs_orbit x y (u ∷ run) h =
+      ap (λ (z : A). z ∷ run) h.0 ∙ ap (λ (zs : List A). x ∷ zs) (runs_orbit (step x) y run h.1)
 
   -- each is followed by its step
   runs_shift : (x y : A) (run : List A) → Runs x run y → x ∷ map step run ≡ run ++ (y ∷ [])
@@ -61,7 +68,8 @@ module _ {A : Type 0} (s : Pairings A) where
       omega (arith, runs_shorter (step x) y z run other h.1 k.1 (omega (arith, count_by-cons (s.same y) u run)) ne)
 
   -- two runs that end where they first come to y
-  pub runs_unique : (x y : A) (run other : List A) → Runs x run y → Runs x other y → O.count s y run ≡ 0 → O.count s y other ≡ 0 → run ≡ other
+  pub runs_unique : (x y : A) (run other : List A) → Runs x run y → Runs x other y → O.count s y run ≡ 0
+      → O.count s y other ≡ 0 → run ≡ other
   runs_unique x y [] [] h k none no_other = refl
   runs_unique x y [] (v ∷ other) h k none no_other = absurd (omega (arith, O.count-same s y v other (sym h ∙ sym k.0)))
   runs_unique x y (u ∷ run) [] h k none no_other = absurd (omega (arith, O.count-same s y u run (sym k ∙ sym h.0)))
@@ -90,20 +98,25 @@ module _ {A : Type 0} (s : Pairings A) where
   pub both_valid : (run : List A) → All s.Valid run → All s.Valid (run ++ back run)
   both_valid run h = All-append s.Valid run (back run) h (back_valid run h)
 
-  pub runs_back : (x y : A) (run : List A) → s.Valid x → Runs x run y → Runs (step (s.opposite y)) (back run) (step (s.opposite x))
+  pub runs_back : (x y : A) (run : List A) → s.Valid x → Runs x run y
+      → Runs (step (s.opposite y)) (back run) (step (s.opposite x))
   runs_back x y [] v h = ap (λ (z : A). step (s.opposite z)) (sym h)
   runs_back x y (u ∷ run) v h =
       let rest : Runs (step (s.opposite y)) (back run) (s.opposite x) =
       subst (λ (z : A). Runs (step (s.opposite y)) (back run) z) (O.step_back s x v)
       (runs_back (step x) y run (O.step_valid s x v) h.1) in
-      runs_join (step (s.opposite y)) (s.opposite x) (step (s.opposite x)) (back run) (s.opposite u ∷ []) rest (ap s.opposite h.0, refl)
+      runs_join (step (s.opposite y)) (s.opposite x) (step (s.opposite x)) (back run) (s.opposite u ∷ []) rest
+      (ap s.opposite h.0, refl)
 
-  pub count-back : (x : A) (run : List A) → s.Valid x → All s.Valid run → O.count s x (back run) ≡ O.count s (s.opposite x) run
+  pub count-back : (x : A) (run : List A) → s.Valid x → All s.Valid run
+      → O.count s x (back run) ≡ O.count s (s.opposite x) run
   count-back x [] v h = refl
   count-back x (u ∷ run) v h =
       let vu : s.Valid u = All-head s.Valid u run h in
-      let rest : O.count s x (back run) ≡ O.count s (s.opposite x) run = count-back x run v (All-tail s.Valid u run h) in
-      let joined : O.count s x (back run ++ (s.opposite u ∷ [])) ≡ O.count s x (back run) + O.count s x (s.opposite u ∷ []) =
+      let rest : O.count s x (back run) ≡ O.count s (s.opposite x) run =
+      count-back x run v (All-tail s.Valid u run h) in
+      let joined : O.count s x (back run ++ (s.opposite u ∷ [])) ≡ O.count s x (back run) + O.count s x
+      (s.opposite u ∷ []) =
       count_by-append (s.same x) (back run) (s.opposite u ∷ []) in
       elim (O.same_or_other s x (s.opposite u)) [
         | inl e ↦
@@ -150,7 +163,8 @@ module _ {A : Type 0} (s : Pairings A) where
       )
 
   -- a run goes on from each thing that it passes, to a thing that it passes or to its end
-  goes_on : (x y z : A) (run : List A) → Runs x run z → O.count s y run ≢ 0 → (O.count s (step y) run ≢ 0) ⊎ (step y ≡ z)
+  goes_on : (x y z : A) (run : List A) → Runs x run z → O.count s y run ≢ 0
+      → (O.count s (step y) run ≢ 0) ⊎ (step y ≡ z)
   goes_on x y z [] h some = absurd (some refl)
   goes_on x y z (u ∷ []) h some =
       elim (O.count-cases s y u [] some) [ inl e ↦ inr (ap step (e ∙ h.0) ∙ h.1) | inr later ↦ absurd (later refl) ]

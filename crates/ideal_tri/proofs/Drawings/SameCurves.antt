@@ -1,8 +1,8 @@
 -- Lists of closed words up to order, rotation and direction.
-use Rattle.std.proofs.Common.{ℕ, ℤ, Bool, true, cond, eqb, List, [], ◌∷◌, ◌++◌, ◌≡◌, ◌+◌, suc, refl, sym, ◌∙◌, ap, arith, length, map}
-use Rattle.std.specs.List.{All, AllZip, count_by, sum_by}
+use Rattle.std.proofs.Common.{ℕ, ℤ, Bool, cond, eqb, List, [], ◌∷◌, ◌++◌, ◌≡◌, refl, sym, ◌∙◌, ap, arith, length, map}
+use Rattle.std.specs.List.{AllZip, count_by, sum_by}
 use Rattle.std.proofs.lemmas.List.Sums.{sum_by-cons}
-use Rattle.ideal_tri.specs.Labels.{inverse, edge_of}
+use Rattle.ideal_tri.specs.Labels.{edge_of}
 use Rattle.ideal_tri.specs.Curves.{IsSameCurve, IsSameCurves, is_same_curve, crossings}
 use Rattle.ideal_tri.specs.DrawingLaws.{SameCurvesLaws}
 use Rattle.ideal_tri.proofs.Labels.{edge_of-inverse}
@@ -22,7 +22,13 @@ pub SameCurves-append : (us vs more others : List (List ℤ)) → IsSameCurves u
     → IsSameCurves (us ++ more) (vs ++ others)
 SameCurves-append us vs more others h k = record {
   counts = λ c.
-      omega (arith, count_by-append (is_same_curve c) us more, count_by-append (is_same_curve c) vs others, h.counts c, k.counts c);
+      omega (
+        arith,
+        count_by-append (is_same_curve c) us more,
+        count_by-append (is_same_curve c) vs others,
+        h.counts c,
+        k.counts c,
+      );
 }
 
 -- what does not tell two words of one curve apart has the same sum

@@ -1,5 +1,5 @@
 -- Things that are numbered, opposite ones alike, and lists of them that rise.
-use Rattle.std.proofs.Common.{ℕ, Bool, true, cond, List, [], ◌∷◌, ◌++◌, ◌≡◌, ◌≢◌, ◌≤◌, ◌<◌, ◌+◌, ◌⊎◌, inl, inr, refl, sym, ◌∙◌, ap, arith}
+use Rattle.std.proofs.Common.{ℕ, Bool, true, cond, List, [], ◌∷◌, ◌≡◌, ◌≢◌, ◌≤◌, ◌<◌, inl, inr, refl, sym, ◌∙◌, ap, arith}
 use Rattle.std.specs.List.{All, filter}
 use Rattle.std.proofs.lemmas.Bool.{cases_Bool, cases_eq, true≢false}
 use Rattle.std.proofs.lemmas.List.Elements.{All-nil, All-cons}
@@ -28,7 +28,12 @@ module _ {A : Type 0} (s : Pairings A) where
       elim (cases_Bool (p y)) [
         | inl kept ↦
             ap (λ (b : Bool). O.count s x (cond b (y ∷ filter p ys) (filter p ys))) kept
-            ∙ omega (arith, count_by-cons (s.same x) y (filter p ys), count_by-cons (s.same x) y ys, count-filter p x ys e)
+            ∙ omega (
+              arith,
+              count_by-cons (s.same x) y (filter p ys),
+              count_by-cons (s.same x) y ys,
+              count-filter p x ys e,
+            )
         | inr left_out ↦
             ap (λ (b : Bool). O.count s x (cond b (y ∷ filter p ys) (filter p ys))) left_out
             ∙ count-filter p x ys e
@@ -71,7 +76,8 @@ module _ {A : Type 0} (s : Pairings A) (n : Numbering s) where
       ]
 
   -- two rising lists with the same elements
-  pub same_rising : (xs ys : List A) → Rising n.number xs → Rising n.number ys → ((z : A) → O.count s z xs ≢ 0 → O.count s z ys ≢ 0)
+  pub same_rising : (xs ys : List A) → Rising n.number xs → Rising n.number ys
+      → ((z : A) → O.count s z xs ≢ 0 → O.count s z ys ≢ 0)
       → ((z : A) → O.count s z ys ≢ 0 → O.count s z xs ≢ 0) → xs ≡ ys
   same_rising [] [] h k there back = refl
   same_rising [] (y ∷ ys) h k there back = absurd (back y (λ none. omega (arith, O.count-same s y y ys refl)) refl)

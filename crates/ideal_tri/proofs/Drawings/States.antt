@@ -1,14 +1,17 @@
--- The states of a vector, with the other side of the edge and the other end in the triangle, are two pairings of finitely
--- many things; a drawing is a family of closed runs that uses each pair once.
+-- The states of a vector are things with two pairings, and its drawings are families of closed runs.
+--
+-- The opposite of a state is the same strand seen from the other side of its edge; across is the other end of the
+-- strand in its triangle. Of each two opposite states one has a label that is not negative, and these are the sides. A
+-- drawing uses each of them once, so it uses each pair of opposite states once.
 use Rattle.std.proofs.Common.{ℕ, ℤ, pos, negsuc, List, [], ◌∷◌, ◌≡◌, ◌≢◌, ◌<◌, ◌+◌, ◌-◌, ◌⊎◌, inl, inr, refl, sym, ◌∙◌, ap, subst, arith, length}
 use Rattle.std.specs.List.{All, count_by}
 use Rattle.std.proofs.lemmas.List.Elements.{All-head, All-weaker}
 use Rattle.ideal_tri.specs.Labels.{edge_of}
 use Rattle.ideal_tri.specs.Triangulations.{IsLabel, IsTriangulation, edge_count, previous}
 use Rattle.ideal_tri.specs.Vectors.{IsMulticurve, weight, corner_count}
-use Rattle.ideal_tri.specs.Strands.{State, state_at, IsStrand, same_state, opposite, cross, strand_step, Runs, IsClosedRun, uses, IsDrawing}
+use Rattle.ideal_tri.specs.Strands.{State, state_at, IsStrand, same_state, opposite, cross, strand_step, Runs, IsClosedRun, IsDrawing}
 use Rattle.ideal_tri.specs.SurfaceLaws.{TriangleLaws}
-use Rattle.ideal_tri.specs.Drawings.{place_on_edge, strand_number, strands}
+use Rattle.ideal_tri.specs.Drawings.{strand_number, strands}
 use Rattle.ideal_tri.proofs.Triangles.{triangle_laws}
 use Rattle.ideal_tri.proofs.Strands.{corner_sum}
 use Rattle.ideal_tri.proofs.Drawings.Through as T
@@ -20,7 +23,8 @@ use Rattle.ideal_tri.proofs.Drawings.Alike as L
 use Rattle.ideal_tri.proofs.Drawings.Sides.{Numbering}
 
 -- the number of a strand is that of its other side
-pub opposite_number : (w : List ℕ) (x : ℤ) (i : ℕ) → i < weight w x → strand_number w (opposite w (state_at x i)) ≡ strand_number w (state_at x i)
+pub opposite_number : (w : List ℕ) (x : ℤ) (i : ℕ) → i < weight w x
+    → strand_number w (opposite w (state_at x i)) ≡ strand_number w (state_at x i)
 opposite_number w (pos e) i b = omega arith
 opposite_number w (negsuc e) i b = refl
 
@@ -28,9 +32,11 @@ opposite_number w (negsuc e) i b = refl
 pub record Setting (triples : List (List ℤ)) (w : List ℕ) : Type 0 where
   pub laws : TriangleLaws triples
   pub long : length w ≡ edge_count triples
-  pub corners : (x : ℤ) → IsLabel triples x → weight w x ≡ corner_count triples w x + corner_count triples w (previous triples x)
+  pub corners : (x : ℤ) → IsLabel triples x
+      → weight w x ≡ corner_count triples w x + corner_count triples w (previous triples x)
 
-pub setting : (triples : List (List ℤ)) (w : List ℕ) → IsTriangulation triples → IsMulticurve triples w → Setting triples w
+pub setting : (triples : List (List ℤ)) (w : List ℕ) → IsTriangulation triples → IsMulticurve triples w
+    → Setting triples w
 setting triples w h m = record {
   laws = triangle_laws triples h;
   long = m.one_per_edge;
@@ -42,7 +48,8 @@ module _ (triples : List (List ℤ)) (w : List ℕ) (given : Setting triples w) 
   side_valid q h = record { is_label = subst (λ (n : ℕ). edge_of q.label < n) given.long h.edge; within = h.within }
 
   pub covered : (x : ℤ) (i : ℕ) → i < weight w x
-      → (count_by (same_state (state_at x i)) (strands w) ≢ 0) ⊎ (count_by (same_state (opposite w (state_at x i))) (strands w) ≢ 0)
+      → (count_by (same_state (state_at x i)) (strands w) ≢ 0)
+      ⊎ (count_by (same_state (opposite w (state_at x i))) (strands w) ≢ 0)
   covered (pos e) i b = inl (in_strands w e i b)
   covered (negsuc e) i b = inr (in_strands w e (weight w (negsuc e) - 1 - i) (omega arith))
 
@@ -81,7 +88,8 @@ module _ (triples : List (List ℤ)) (w : List ℕ) (given : Setting triples w) 
   from_runs q r [] h = h
   from_runs q r (p ∷ run) h = (h.0, from_runs (strand_step triples w q) r run h.1)
 
-  start_valid : (q : State) (run : List State) → 0 < length run → All (IsStrand triples w) run → Runs triples w q run q → IsStrand triples w q
+  start_valid : (q : State) (run : List State) → 0 < length run → All (IsStrand triples w) run → Runs triples w q run q
+      → IsStrand triples w q
   start_valid q [] some v h = absurd (omega arith)
   start_valid q (p ∷ run) some v h = subst (IsStrand triples w) h.0 (All-head (IsStrand triples w) p run v)
 

@@ -1,5 +1,10 @@
 -- Elements of a list that pass a test: counted, split off, and summed over up to a relation.
-use Rattle.std.proofs.Common.{ℕ, Bool, true, false, cond, List, [], ◌∷◌, ◌++◌, ◌≡◌, ◌≢◌, ◌+◌, ◌≤◌, suc, inl, inr, refl, sym, ◌∙◌, ap, subst, arith, length, length-append, map}
+--
+-- The last part is what stands in for permutations. A test `same` puts elements into classes, and a function has the
+-- same value throughout each. If both lists have as many elements of each class, then the sums of the function are
+-- equal: the first element of one list has a partner in the other; both are taken out, and the rest follows by
+-- induction.
+use Rattle.std.proofs.Common.{ℕ, Bool, true, false, cond, List, [], ◌∷◌, ◌++◌, ◌≡◌, ◌≢◌, ◌+◌, suc, inl, inr, refl, sym, ◌∙◌, ap, subst, arith, map}
 use Rattle.std.specs.List.{All, count_by, sum_by, flat_map}
 use Rattle.std.proofs.lemmas.Bool.{cases_Bool}
 use Rattle.std.proofs.lemmas.List.Elements.{All-nil, All-cons, All-head, All-tail, All-append}
@@ -17,10 +22,12 @@ All-back P (x ∷ xs) ys h = All-back P xs ys (All-tail P x (xs ++ ys) h)
 
 -- ---- counts
 
-pub count_by-cons : {A : Type 0} (p : A → Bool) (x : A) (xs : List A) → count_by p (x ∷ xs) ≡ cond (p x) 1 0 + count_by p xs
+pub count_by-cons : {A : Type 0} (p : A → Bool) (x : A) (xs : List A)
+    → count_by p (x ∷ xs) ≡ cond (p x) 1 0 + count_by p xs
 count_by-cons p x xs = sum_by-cons (λ y. cond (p y) 1 0) x xs
 
-pub count_by-append : {A : Type 0} (p : A → Bool) (xs ys : List A) → count_by p (xs ++ ys) ≡ count_by p xs + count_by p ys
+pub count_by-append : {A : Type 0} (p : A → Bool) (xs ys : List A)
+    → count_by p (xs ++ ys) ≡ count_by p xs + count_by p ys
 count_by-append p xs ys = sum_by-append (λ y. cond (p y) 1 0) xs ys
 
 pub one_if : (b : Bool) → b ≡ true → ◌≡◌ {A = ℕ} (cond b 1 0) 1
@@ -29,13 +36,15 @@ one_if b e = ap (λ (t : Bool). cond t 1 0) e
 pub none_if : (b : Bool) → b ≡ false → ◌≡◌ {A = ℕ} (cond b 1 0) 0
 none_if b e = ap (λ (t : Bool). cond t 1 0) e
 
-pub count_by-yes : {A : Type 0} (p : A → Bool) (x : A) (xs : List A) → p x ≡ true → count_by p (x ∷ xs) ≡ suc (count_by p xs)
+pub count_by-yes : {A : Type 0} (p : A → Bool) (x : A) (xs : List A) → p x ≡ true
+    → count_by p (x ∷ xs) ≡ suc (count_by p xs)
 count_by-yes p x xs e = omega (arith, count_by-cons p x xs, one_if (p x) e)
 
 pub count_by-no : {A : Type 0} (p : A → Bool) (x : A) (xs : List A) → p x ≡ false → count_by p (x ∷ xs) ≡ count_by p xs
 count_by-no p x xs e = omega (arith, count_by-cons p x xs, none_if (p x) e)
 
-pub count_by-map : {A B : Type 0} (p : B → Bool) (f : A → B) (xs : List A) → count_by p (map f xs) ≡ count_by (λ x. p (f x)) xs
+pub count_by-map : {A B : Type 0} (p : B → Bool) (f : A → B) (xs : List A)
+    → count_by p (map f xs) ≡ count_by (λ x. p (f x)) xs
 count_by-map p f [] = refl
 count_by-map p f (x ∷ xs) =
     count_by-cons p (f x) (map f xs)
@@ -46,10 +55,17 @@ count_by-map p f (x ∷ xs) =
 pub sum_by-agree : {A : Type 0} (f g : A → ℕ) (xs : List A) → All (λ x. f x ≡ g x) xs → sum_by f xs ≡ sum_by g xs
 sum_by-agree f g [] h = refl
 sum_by-agree f g (x ∷ xs) h =
-    omega (arith, sum_by-cons f x xs, sum_by-cons g x xs, All-head (λ y. f y ≡ g y) x xs h, sum_by-agree f g xs (All-tail (λ y. f y ≡ g y) x xs h))
+    omega (
+      arith,
+      sum_by-cons f x xs,
+      sum_by-cons g x xs,
+      All-head (λ y. f y ≡ g y) x xs h,
+      sum_by-agree f g xs (All-tail (λ y. f y ≡ g y) x xs h),
+    )
 
 -- the count over lists in a row is the sum of their counts
-pub count_by-flat : {A : Type 0} (p : A → Bool) (xss : List (List A)) → count_by p (flat_map (λ xs. xs) xss) ≡ sum_by (count_by p) xss
+pub count_by-flat : {A : Type 0} (p : A → Bool) (xss : List (List A))
+    → count_by p (flat_map (λ xs. xs) xss) ≡ sum_by (count_by p) xss
 count_by-flat p [] = refl
 count_by-flat p (xs ∷ xss) =
     omega (arith, count_by-append p xs (flat_map (λ ys. ys) xss), count_by-flat p xss, sum_by-cons (count_by p) xs xss)

@@ -1,11 +1,17 @@
--- Strands through a triangle and over an edge: both ways back lead back, and neither leaves a strand where it is.
-use Rattle.std.proofs.Common.{ℕ, ℤ, pos, negsuc, Bool, true, false, cond, leb, eqb, List, ◌≡◌, ◌≢◌, ◌≤◌, ◌<◌, ◌+◌, ◌-◌, ◌⊎◌, inl, inr, refl, sym, ◌∙◌, ap, subst, arith}
+-- Strands over an edge and through a triangle: each way leads back when taken again, and leaves no strand where it is.
+--
+-- A side with p strands round its head and r round its tail has p + r of them. Through the triangle those round the
+-- tail go to the side before, where they are the ones round its head, and the others to the side after, where they are
+-- the ones round its tail; places are counted from the other end there. So a step, over an edge and through the next
+-- triangle, keeps the place of a strand round the tail of its label, and any other strand passes the corner behind
+-- that.
+use Rattle.std.proofs.Common.{ℕ, ℤ, Bool, cond, eqb, List, ◌≡◌, ◌≢◌, ◌≤◌, ◌<◌, ◌+◌, ◌-◌, inl, inr, sym, ◌∙◌, ap, subst, arith}
 use Rattle.std.specs.Bool.{Decides}
 use Rattle.std.specs.Ordering.{int_eq}
 use Rattle.std.specs.Prelude.{slice_index}
 use Rattle.std.proofs.lemmas.Bool.{cases_lt, le-leb, lt-leb}
 use Rattle.std.proofs.lemmas.Bool.Decides.{Decides-int_eq, Decides-eqb, Decides-and, Decides-like}
-use Rattle.ideal_tri.specs.Labels.{inverse, edge_of}
+use Rattle.ideal_tri.specs.Labels.{inverse}
 use Rattle.ideal_tri.specs.Triangulations.{IsLabel, next, previous}
 use Rattle.ideal_tri.specs.Vectors.{weight, corner_count}
 use Rattle.ideal_tri.specs.Strands.{State, state_at, IsStrand, same_state, opposite, cross, strand_step}
@@ -21,7 +27,8 @@ pub same_state_decides : (q r : State) → Decides (same_state q r) (q ≡ r)
 same_state_decides q r =
     Decides-like (same_state q r) (λ (h : (q.label ≡ r.label) × (q.place ≡ r.place)). state_same q r h.0 h.1)
     (λ e. (ap (λ (p : State). p.label) e, ap (λ (p : State). p.place) e))
-    (Decides-and (int_eq q.label r.label) (eqb q.place r.place) (Decides-int_eq q.label r.label) (Decides-eqb q.place r.place))
+    (Decides-and (int_eq q.label r.label) (eqb q.place r.place) (Decides-int_eq q.label r.label)
+    (Decides-eqb q.place r.place))
 
 -- ---- over an edge
 
@@ -37,7 +44,8 @@ module _ (triples : List (List ℤ)) (w : List ℕ) where
 
   pub opposite_back : (q : State) → IsStrand triples w q → opposite w (opposite w q) ≡ q
   opposite_back q v =
-      state_same (opposite w (opposite w q)) q (inverse-inverse q.label) (omega (arith, weight-inverse w q.label, v.within))
+      state_same (opposite w (opposite w q)) q (inverse-inverse q.label)
+      (omega (arith, weight-inverse w q.label, v.within))
 
   pub opposite_other : (q : State) → IsStrand triples w q → opposite w q ≢ q
   opposite_other q v e = not_own_inverse q.label (sym (ap (λ (p : State). p.label) e))
@@ -45,7 +53,8 @@ module _ (triples : List (List ℤ)) (w : List ℕ) where
 -- ---- through a triangle
 
 module _ (triples : List (List ℤ)) (w : List ℕ) (laws : TriangleLaws triples)
-    (corners : (x : ℤ) → IsLabel triples x → weight w x ≡ corner_count triples w x + corner_count triples w (previous triples x)) where
+    (corners : (x : ℤ) → IsLabel triples x → weight w x ≡ corner_count triples w x + corner_count triples w
+    (previous triples x)) where
   abbrev pub after : ℤ → ℤ
   after x = next triples x
 
@@ -70,14 +79,18 @@ module _ (triples : List (List ℤ)) (w : List ℕ) (laws : TriangleLaws triples
   side_before x l =
       corners (before x) (before_label x l) ∙ ap (λ (y : ℤ). corner (before x) + corner y) (before-before x l)
 
-  pub cross-on : (x : ℤ) (i : ℕ) → corner (before x) ≤ i → cross triples w (state_at x i) ≡ state_at (after x) (weight w x - 1 - i)
+  pub cross-on : (x : ℤ) (i : ℕ) → corner (before x) ≤ i
+      → cross triples w (state_at x i) ≡ state_at (after x) (weight w x - 1 - i)
   cross-on x i b =
-      ap (λ (t : Bool). cond t (state_at (after x) (weight w x - 1 - i)) (state_at (before x) (weight w (before x) - 1 - i)))
+      ap (λ (t : Bool). cond t (state_at (after x) (weight w x - 1 - i))
+      (state_at (before x) (weight w (before x) - 1 - i)))
       (le-leb (corner (before x)) i b)
 
-  pub cross-round : (x : ℤ) (i : ℕ) → i < corner (before x) → cross triples w (state_at x i) ≡ state_at (before x) (weight w (before x) - 1 - i)
+  pub cross-round : (x : ℤ) (i : ℕ) → i < corner (before x)
+      → cross triples w (state_at x i) ≡ state_at (before x) (weight w (before x) - 1 - i)
   cross-round x i b =
-      ap (λ (t : Bool). cond t (state_at (after x) (weight w x - 1 - i)) (state_at (before x) (weight w (before x) - 1 - i)))
+      ap (λ (t : Bool). cond t (state_at (after x) (weight w x - 1 - i))
+      (state_at (before x) (weight w (before x) - 1 - i)))
       (lt-leb (corner (before x)) i b)
 
   pub cross_valid : (q : State) → IsStrand triples w q → IsStrand triples w (cross triples w q)
@@ -105,10 +118,12 @@ module _ (triples : List (List ℤ)) (w : List ℕ) (laws : TriangleLaws triples
             let far : corner (before (before x)) ≤ j = omega (arith, side_before x l, ap corner (before-before x l)) in
             ap (cross triples w) (cross-round x i b)
             ∙ cross-on (before x) j far
-            ∙ state_same (state_at (after (before x)) (weight w (before x) - 1 - j)) q (laws.round x l) (omega (arith, side_before x l)))
+            ∙ state_same (state_at (after (before x)) (weight w (before x) - 1 - j)) q (laws.round x l)
+            (omega (arith, side_before x l)))
         | inr b ↦
             (let j : ℕ = weight w x - 1 - i in
-            let near : j < corner (before (after x)) = omega (arith, corners x l, v.within, ap corner (laws.round x l)) in
+            let near : j < corner (before (after x)) =
+            omega (arith, corners x l, v.within, ap corner (laws.round x l)) in
             ap (cross triples w) (cross-on x i b)
             ∙ cross-round (after x) j near
             ∙ state_same (state_at (before (after x)) (weight w (before (after x)) - 1 - j)) q (laws.round x l)
@@ -124,7 +139,8 @@ module _ (triples : List (List ℤ)) (w : List ℕ) (laws : TriangleLaws triples
         | inr b ↦ (laws.moves x v.is_label).0 (ap (λ (p : State). p.label) (sym (cross-on x i b) ∙ e))
       ]
 
-  -- ---- one step: a strand within the corner at the tail keeps its place as it turns round that corner, any other turns back
+  -- ---- one step: a strand within the corner at the tail keeps its place as it turns round that corner, any other
+  -- turns back
 
   pub step_on : (q : State) → IsStrand triples w q → q.place < corner (inverse q.label)
       → strand_step triples w q ≡ state_at (after (inverse q.label)) q.place

@@ -1,9 +1,9 @@
 -- Curves that turn the same way all round have strands at all corners of a vertex.
 --
--- A curve turns on where each of its states lies within the corner at the tail of its label. From one such state to the next
--- the corner takes a step round its vertex, so the curve goes through all corners there, which therefore have strands. Where
--- it turns back it goes through them the other way round.
-use Rattle.std.proofs.Common.{ℕ, zero, suc, ℤ, List, [], ◌∷◌, ◌++◌, ◌≡◌, ◌≢◌, ◌≤◌, ◌<◌, ◌+◌, ◌⊎◌, inl, inr, refl, sym, ◌∙◌, ap, subst, arith}
+-- A curve turns on where each of its states lies within the corner at the tail of its label. From one such state to the
+-- next the corner takes a step round its vertex, so the curve goes through all corners there, which therefore have
+-- strands. Where it turns back it goes through them the other way round.
+use Rattle.std.proofs.Common.{ℕ, zero, suc, ℤ, List, [], ◌∷◌, ◌++◌, ◌≡◌, ◌≢◌, ◌<◌, inl, inr, refl, sym, ◌∙◌, ap, subst, arith}
 use Rattle.std.specs.List.{All}
 use Rattle.std.proofs.lemmas.Bool.{cases_lt}
 use Rattle.std.proofs.lemmas.List.Elements.{All-nil, All-cons, All-head, All-tail}
@@ -12,7 +12,7 @@ use Rattle.ideal_tri.specs.Words.{closed_up}
 use Rattle.ideal_tri.specs.Triangulations.{IsLabel, next, previous}
 use Rattle.ideal_tri.specs.Vectors.{corner_count}
 use Rattle.ideal_tri.specs.Strands.{State, IsStrand, strand_step, word_of}
-use Rattle.ideal_tri.specs.Peripheral.{AllNeighbours, TurnsOn, TurnsBack, IsPeripheral}
+use Rattle.ideal_tri.specs.Peripheral.{AllNeighbours, IsPeripheral}
 use Rattle.ideal_tri.specs.Vertices.{corner_step, corner_after, IsSameVertex}
 use Rattle.ideal_tri.specs.PeripheralParts.{HasFreeCorners}
 use Rattle.ideal_tri.proofs.Labels.{inverse-inverse, inverse_label}
@@ -44,7 +44,8 @@ module _ (triples : List (List ℤ)) (w : List ℕ) (given : Setting triples w) 
   to_steps Rel q r [] h n = All-nil (λ p. Rel p.label (step p).label)
   to_steps Rel q r (p ∷ []) h n =
       All-cons (λ p. Rel p.label (step p).label) p []
-      (subst (λ (u : State). Rel p.label u.label) (sym h.1 ∙ ap step (sym h.0)) n.0) (All-nil (λ p. Rel p.label (step p).label))
+      (subst (λ (u : State). Rel p.label u.label) (sym h.1 ∙ ap step (sym h.0)) n.0)
+      (All-nil (λ p. Rel p.label (step p).label))
   to_steps Rel q r (p ∷ (p' ∷ run)) h n =
       All-cons (λ p. Rel p.label (step p).label) p (p' ∷ run)
       (subst (λ (u : State). Rel p.label u.label) (h.1.0 ∙ ap step (sym h.0)) n.0)
@@ -58,15 +59,18 @@ module _ (triples : List (List ℤ)) (w : List ℕ) (given : Setting triples w) 
     tt,
   )
   from_steps Rel q r (p ∷ (p' ∷ run)) h a = (
-    subst (λ (u : State). Rel p.label u.label) (ap step h.0 ∙ sym h.1.0) (All-head (λ p. Rel p.label (step p).label) p (p' ∷ run) a),
+    subst (λ (u : State). Rel p.label u.label) (ap step h.0 ∙ sym h.1.0)
+        (All-head (λ p. Rel p.label (step p).label) p (p' ∷ run) a),
     from_steps Rel (step q) r (p' ∷ run) h.1 (All-tail (λ p. Rel p.label (step p).label) p (p' ∷ run) a),
   )
 
-  closed_to_steps : (Rel : ℤ → ℤ → Type 0) (run : List State) → R.Closed s run → AllNeighbours Rel (closed_up (word_of run)) → AllSteps Rel run
+  closed_to_steps : (Rel : ℤ → ℤ → Type 0) (run : List State) → R.Closed s run
+      → AllNeighbours Rel (closed_up (word_of run)) → AllSteps Rel run
   closed_to_steps Rel [] c n = absurd (c.not_empty refl)
   closed_to_steps Rel (q ∷ run) c n = to_steps Rel q q (q ∷ run) (R.closed_at_head s q run c).1 n
 
-  pub closed_from_steps : (Rel : ℤ → ℤ → Type 0) (run : List State) → R.Closed s run → AllSteps Rel run → AllNeighbours Rel (closed_up (word_of run))
+  pub closed_from_steps : (Rel : ℤ → ℤ → Type 0) (run : List State) → R.Closed s run → AllSteps Rel run
+      → AllNeighbours Rel (closed_up (word_of run))
   closed_from_steps Rel [] c a = absurd (c.not_empty refl)
   closed_from_steps Rel (q ∷ run) c a = from_steps Rel q q (q ∷ run) (R.closed_at_head s q run c).1 a
 
@@ -106,9 +110,11 @@ module _ (triples : List (List ℤ)) (w : List ℕ) (given : Setting triples w) 
   on_corners : (run : List State) → R.Closed s run → All On run → (n : ℕ) (p : State) → O.count s p run ≢ 0
       → 0 < corner (corner_after triples n (inverse p.label))
   on_corners run c on zero p some =
-      on_corner p (O.All-counted s (IsStrand triples w) p run (R.closed_valid s run c) some) (O.All-counted s On p run on some)
+      on_corner p (O.All-counted s (IsStrand triples w) p run (R.closed_valid s run c) some)
+      (O.All-counted s On p run on some)
   on_corners run c on (suc n) p some =
-      let turned : inverse (step p).label ≡ corner_step triples (inverse p.label) = ap inverse (O.All-counted s On p run on some) in
+      let turned : inverse (step p).label ≡ corner_step triples (inverse p.label) =
+      ap inverse (O.All-counted s On p run on some) in
       subst (λ (x : ℤ). 0 < corner (corner_after triples n x)) turned
       (on_corners run c on n (step p) (R.closed_goes_on s p run c some))
 
@@ -116,16 +122,20 @@ module _ (triples : List (List ℤ)) (w : List ℕ) (given : Setting triples w) 
       → IsLabel triples z → corner_after triples n z ≡ previous triples (inverse p.label) → 0 < corner z
   back_corners run c back zero p z some l e =
       subst (λ (x : ℤ). 0 < corner x) (sym e)
-      (back_corner p (O.All-counted s (IsStrand triples w) p run (R.closed_valid s run c) some) (O.All-counted s Back p run back some))
+      (back_corner p (O.All-counted s (IsStrand triples w) p run (R.closed_valid s run c) some)
+      (O.All-counted s Back p run back some))
   back_corners run c back (suc n) p z some l e =
       let more : O.count s (step p) run ≢ 0 = R.closed_goes_on s p run c some in
-      let v : IsStrand triples w (step p) = O.All-counted s (IsStrand triples w) (step p) run (R.closed_valid s run c) more in
+      let v : IsStrand triples w (step p) =
+      O.All-counted s (IsStrand triples w) (step p) run (R.closed_valid s run c) more in
       let x : ℤ = (step p).label in
       let m : IsLabel triples (inverse x) = there (step p) v in
-      let here : corner_step triples (previous triples (inverse x)) ≡ x = ap inverse (given.laws.round (inverse x) m) ∙ inverse-inverse x in
+      let here : corner_step triples (previous triples (inverse x)) ≡ x =
+      ap inverse (given.laws.round (inverse x) m) ∙ inverse-inverse x in
       back_corners run c back n (step p) z more l
       (corner_step-injective triples given.laws (corner_after triples n z) (previous triples (inverse x))
-      (corner_after_label triples given.laws n z l) (given.laws.label (next triples (inverse x)) (given.laws.label (inverse x) m))
+      (corner_after_label triples given.laws n z l)
+      (given.laws.label (next triples (inverse x)) (given.laws.label (inverse x) m))
       (sym (corner_after-suc triples n z) ∙ e ∙ sym (O.All-counted s Back p run back some) ∙ sym here))
 
   -- so none turns round a vertex with a free corner
@@ -141,11 +151,13 @@ module _ (triples : List (List ℤ)) (w : List ℕ) (given : Setting triples w) 
   none_round free (p ∷ run) c (some, inr back) =
       let v : IsStrand triples w p = (R.closed_at_head s p run c).0 in
       let x : ℤ = previous triples (inverse p.label) in
-      let l : IsLabel triples x = given.laws.label (next triples (inverse p.label)) (given.laws.label (inverse p.label) (there p v)) in
+      let l : IsLabel triples x =
+      given.laws.label (next triples (inverse p.label)) (given.laws.label (inverse p.label) (there p v)) in
       let (y, at, e) = free x l in
       let round : IsSameVertex triples y x = SameVertex-sym triples given.laws x y l at in
       let here : O.count s p (p ∷ run) ≢ 0 = λ none. omega (arith, O.count-same s p p run refl) in
       let strands : 0 < corner y =
-      back_corners (p ∷ run) c (closed_to_steps (λ x y. y ≡ previous triples (inverse x)) (p ∷ run) c back) round.steps p y here
+      back_corners (p ∷ run) c
+      (closed_to_steps (λ x y. y ≡ previous triples (inverse x)) (p ∷ run) c back) round.steps p y here
       (SameVertex_label triples given.laws x y l at) round.reached in
       omega (arith, e)

@@ -8,8 +8,9 @@
 --     after, in (e,d,a) and (f,b,c): i < l d to d; else through e to the place j with j + A = i + F,
 --     and j >= l c to b, else to c
 --
--- Each pair of lines that can hold together ends at one side and place, by the corner sums and the greater
--- sum: E + F = max (A + C) (B + D). The side b has a table like this, and the other two sides are those of the other label of the edge.
+-- Each pair of lines that can hold together ends at one side and place, by the corner sums and the greater sum:
+-- E + F = max (A + C) (B + D). The side b has a table like this, and the other two sides are those of the other label
+-- of the edge.
 use Rattle.std.proofs.Common.{ℕ, ℤ, Bool, List, [], ◌∷◌, ◌++◌, ◌≡◌, ◌+◌, max, refl, sym, ◌∙◌, ap, arith, cond}
 use Rattle.ideal_tri.specs.Labels.{inverse}
 use Rattle.ideal_tri.specs.Words.{inverse_word, push, reduce}
