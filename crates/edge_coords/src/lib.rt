@@ -5,6 +5,8 @@ mod coords;
 mod corners;
 mod moves;
 mod sums;
+#[cfg(test)]
+mod tests;
 
 pub use coords::{COORDINATE_LIMIT, Coords, CoordsError};
 pub use moves::{Overflow, OverflowAt};
