@@ -9,7 +9,7 @@
 //! layer of triangulations.
 #![tactic(auto)]
 
-ghost use Rattle.std.specs.Prelude.{◌≡◌, ◌<◌, ◌≤◌, ◌+◌, IfOk, IfErr, OnErr};
+ghost use Rattle.std.specs.Prelude.{◌≡◌, ◌<◌, IfOk, OnOk, IfErr, OnErr};
 ghost use Rattle.tri_atlas.specs.Arena.{IsEdgeIn, Grows};
 ghost use Rattle.flip_move.specs.Flipped.{IsFlippableIn, IsFlipped, IsRefusedFor};
 
@@ -27,16 +27,15 @@ pub enum FlipError {
     Memory,
 }
 
-/// Flips an edge of the atlas, and answers the move, forwards. Where it refuses, the triangulations and moves stay.
+/// Flips an edge of the atlas, and answers the move, forwards. Where it refuses, the atlas stays as it was. It wants memory
+/// only where there is no room for a push.
 pub fn flip(atlas: &mut Atlas, e: EdgeId) -> Result<MoveId, FlipError>
     requires here { IsEdgeIn atlas.old e }
     ensures flipped { IfOk result (λ m. IsFlipped atlas.old atlas.new e m) }
-    ensures flippable { IfOk result (λ _. IsFlippableIn atlas.old e) }
+    ensures flippable { OnOk result (IsFlippableIn atlas.old e) }
     ensures refused { IfErr result (IsRefusedFor atlas.old e) }
-    ensures unchanged { OnErr result ((atlas.new.triangulations ≡ atlas.old.triangulations) × (atlas.new.moves ≡ atlas.old.moves)) }
-    ensures room_unchanged { OnErr result (atlas.old.spare ≤ atlas.new.spare) }
+    ensures unchanged { OnErr result (atlas.new ≡ atlas.old) }
     ensures grows { Grows atlas.old atlas.new }
-    ensures spare { atlas.old.spare ≤ atlas.new.spare + 1 }
 {
     atlas_laws();
     if !atlas.tri(e.tri()).flippable(e.label()) {
@@ -54,7 +53,6 @@ pub fn flip_reserved(atlas: &mut Atlas, e: EdgeId) -> MoveId
     requires flippable { IsFlippableIn atlas.old e }
     requires room { 0 < atlas.old.spare }
     ensures flipped { IsFlipped atlas.old atlas.new e result }
-    ensures spare { atlas.old.spare ≤ atlas.new.spare + 1 }
 {
     let after = atlas.tri(e.tri()).flipped(e.label());
     atlas.push_flip(e, after)

@@ -4,6 +4,7 @@ use Rattle.std.specs.Ordering.{int_eq}
 use Rattle.std.proofs.lemmas.Bool.Decides.{Decides-int_eq, not_from_Decides}
 use Rattle.ideal_tri.specs.Labels.{inverse, edge_of}
 use Rattle.ideal_tri.specs.Triangulations.{IsLabel}
+use Rattle.ideal_tri.specs.LabelLaws.{LabelLaws}
 
 pub inverse-inverse : (x : ℤ) → inverse (inverse x) ≡ x
 inverse-inverse (pos n) = refl
@@ -34,6 +35,13 @@ int_eq-other x y n = go (int_eq x y) refl
     go true e = absurd (n ((Decides-int_eq x y).0 e))
     go false e = e
 
+-- an edge has two labels
+pub two_labels : (x y : ℤ) → edge_of x ≡ edge_of y → (x ≡ y) ⊎ (x ≡ inverse y)
+two_labels (pos m) (pos n) e = inl (ap pos e)
+two_labels (pos m) (negsuc n) e = inr (ap pos e)
+two_labels (negsuc m) (pos n) e = inr (ap negsuc e)
+two_labels (negsuc m) (negsuc n) e = inl (ap negsuc e)
+
 pub edge_of-inverse : (x : ℤ) → edge_of (inverse x) ≡ edge_of x
 edge_of-inverse (pos n) = refl
 edge_of-inverse (negsuc n) = refl
@@ -41,3 +49,15 @@ edge_of-inverse (negsuc n) = refl
 pub inverse_label : (triples : List (List ℤ)) (x : ℤ) → IsLabel triples x → IsLabel triples (inverse x)
 inverse_label triples (pos n) h = h
 inverse_label triples (negsuc n) h = h
+
+pub label_laws : LabelLaws
+label_laws = record {
+  twice = inverse-inverse;
+  apart = not_own_inverse;
+  edge = edge_of-inverse;
+  of_edge = two_labels;
+  label = inverse_label;
+  same_or_not = same_or_not;
+  test_same = int_eq-same;
+  test_other = int_eq-other;
+}

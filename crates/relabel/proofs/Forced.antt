@@ -4,7 +4,7 @@ use Rattle.std.proofs.lemmas.Bool.{cases_eq, cases_lt}
 use Rattle.std.proofs.lemmas.List.Sums.{sum_by-set}
 use Rattle.std.proofs.lemmas.List.{get_or-set_same, get_or-set_other, get_or-take, get_or-replicate, length-replicate, length-set, get_or_past, length-take-le, ext_get_or}
 use Rattle.ideal_tri.specs.Labels.{inverse, edge_of}
-use Rattle.ideal_tri.specs.Triangulations.{IsTriangulation, IsLabel, edge_count, next}
+use Rattle.ideal_tri.specs.Triangulations.{IsTriangulation, IsConnected, IsLabel, edge_count, next}
 use Rattle.ideal_tri.specs.Relabellings.{image_of, IsRelabelling}
 use Rattle.relabel.specs.Relabellings.{with_sign_of, IsTheOne, NoneTakes}
 use Rattle.relabel.specs.Refusals.{IsRefusedFor}
@@ -138,12 +138,12 @@ fewer_unknown known n below unknown =
     let one : ◌≡◌ {A = ℕ} (cond (not (get_or known n false)) 1 0) 1 = ap (λ (b : Bool). cond (not b) 1 0) unknown in
     omega (arith, sum_by-set (λ (b : Bool). cond (not b) 1 0) known n true false below)
 
-pub forced_list : (from to : List (List ℤ)) (x y : ℤ) (images : List ℤ) (known : List Bool) → IsTriangulation from → IsLabel from x
+pub forced_list : (from to : List (List ℤ)) (x y : ℤ) (images : List ℤ) (known : List Bool) → IsTriangulation from → IsConnected from → IsLabel from x
     → IsForced from to x y images known → IsClosed from known → IsForcedList from to x y images
-forced_list from to x y images known from_is label h closed others r takes e below =
+forced_list from to x y images known from_is connected label h closed others r takes e below =
     h.forced others r takes e
     (holds_of_all from from_is (λ z. IsKnown known (edge_of z)) closed
-    (λ z k. subst (IsKnown known) (sym (edge_of-inverse z)) k) x label h.start (pos e) below)
+    (λ z k. subst (IsKnown known) (sym (edge_of-inverse z)) k) connected x label h.start (pos e) below)
 
 -- ---- the list is the one
 

@@ -8,7 +8,7 @@ use Rattle.std.proofs.lemmas.List.Sums.{sum_by-cons, sum_by-append}
 use Rattle.std.proofs.lemmas.List.{get_or_default, append-nil}
 use Rattle.ideal_tri.specs.Labels.{inverse, edge_of}
 use Rattle.ideal_tri.specs.Words.{IsRotation}
-use Rattle.ideal_tri.specs.Triangulations.{labels_of, edge_count, IsLabel, has_side, triangle_of, next_in, next, IsWalk, IsTriangulation}
+use Rattle.ideal_tri.specs.Triangulations.{labels_of, edge_count, IsLabel, has_side, triangle_of, next_in, next, IsWalk, IsTriangulation, IsConnected}
 use Rattle.ideal_tri.specs.Relabellings.{IsTriangleOf}
 use Rattle.relabel.proofs.Images.{inverse-inverse, edge_of-inverse}
 
@@ -362,7 +362,7 @@ triangle_at (t ∷ triples) (suc k) x once below h =
     ap (λ (b : Bool). if b then 0 else suc (triangle_of triples x)) (has_no_side x t (omega (arith, once x, count_triples x t triples)))
     ∙ ap suc (triangle_at triples k x (λ z. omega (arith, once z, count_triples z t triples)) (omega arith) h)
 
--- what holds of a label, of the one after each, and of the inverse of each, holds of all
+-- what holds of a label, of the one after each, and of the inverse of each, holds of all where the triangles are connected
 module _ (triples : List (List ℤ)) (h : IsTriangulation triples) (P : ℤ → Type 0)
     (goes_on : (x : ℤ) → IsLabel triples x → P x → P (next triples x)) (goes_over : (x : ℤ) → P x → P (inverse x)) where
   -- two labels of one triangle
@@ -421,9 +421,9 @@ module _ (triples : List (List ℤ)) (h : IsTriangulation triples) (P : ℤ → 
       let is : triangle_of triples x ≡ k = triangle_at triples k x (once triples h) below x_in in
       omega arith
 
-  pub holds_of_all : (x : ℤ) → IsLabel triples x → P x → (z : ℤ) → IsLabel triples z → P z
-  holds_of_all x label p z z_label =
-      let from_start = h.connected (triangle_of triples x) (triangle_below x label) in
-      let to_z = h.connected (triangle_of triples z) (triangle_below z z_label) in
+  pub holds_of_all : IsConnected triples → (x : ℤ) → IsLabel triples x → P x → (z : ℤ) → IsLabel triples z → P z
+  holds_of_all connected x label p z z_label =
+      let from_start = connected.reached (triangle_of triples x) (triangle_below x label) in
+      let to_z = connected.reached (triangle_of triples z) (triangle_below z z_label) in
       along_walk to_z.letters 0 (triangle_of triples z) to_z.walk
       (against_walk from_start.letters 0 (triangle_of triples x) from_start.walk (throughout x label p)) z z_label refl

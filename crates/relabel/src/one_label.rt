@@ -1,7 +1,7 @@
 //! The relabelling that takes one label to a given one.
 ghost use Rattle.std.specs.Prelude.{◌≡◌, ◌<◌, ◌≤◌, ◌↔◌, length, slice_set, IsTrue, IfSome, IfNone, true};
 ghost use Rattle.ideal_tri.specs.Labels.{edge_of};
-ghost use Rattle.ideal_tri.specs.Triangulations.{edge_count, IsLabel, IsTriangulation};
+ghost use Rattle.ideal_tri.specs.Triangulations.{edge_count, IsLabel, IsTriangulation, IsConnected};
 ghost use Rattle.ideal_tri.specs.Relabellings.{image_of};
 ghost use Rattle.relabel.specs.Relabellings.{with_sign_of, IsTheOne, NoneTakes};
 ghost use Rattle.relabel.specs.Forced.{IsOpen, IsClosed, IsForcedList};
@@ -10,9 +10,10 @@ use crate::relabelling::{EDGES, Relabelling, with_sign_of};
 use ideal_tri::{Label, Tri};
 
 impl Relabelling {
-    /// The one relabelling of `from` onto `to` that takes the label `x` to `y`, or `None` where there is none. (Since a
-    /// triangulation is connected, the image of one label settles all others.)
+    /// The one relabelling of `from` onto `to` that takes the label `x` to `y`, or `None` where there is none. Both
+    /// triangulations are connected, so that the image of one label settles all others.
     pub fn from_one(from: &Tri, to: &Tri, x: Label, y: Label) -> Option<Relabelling>
+        requires connected { IsConnected from.now × IsConnected to.now }
         requires same { edge_count from.now ≡ edge_count to.now }
         requires label { IsLabel from.now x }
         requires image { IsLabel to.now y }
@@ -27,6 +28,7 @@ impl Relabelling {
 
 // The images that each relabelling has which takes `x` to `y`, if there is one.
 fn forced_images(from: &Tri, to: &Tri, x: Label, y: Label) -> [i32; EDGES]
+    requires connected { IsConnected from.now }
     requires sound { IsTriangulation to.now }
     requires label { IsLabel from.now x }
     requires image { IsLabel to.now y }

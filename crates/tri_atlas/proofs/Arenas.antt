@@ -2,14 +2,13 @@
 use Rattle.std.proofs.Common.{◌≡◌, ◌∙◌, ◌<◌, ◌++◌, [], ◌∷◌, ℕ, zero, suc, ℤ, Bool, true, false, List, refl, sym, ap, subst, length, get_or, arith, length-append}
 use Rattle.std.proofs.lemmas.List.{append-nil, get_or_append_left, get_or_push}
 use Rattle.ideal_tri.specs.Flips.{IsFlippable, flipped}
-use Rattle.ideal_tri.specs.FlipLaws.{FlipLaws, QuadrilateralLaws}
+use Rattle.ideal_tri.specs.FlipLaws.{OneFlipLaws, FlipLaws}
 use Rattle.ideal_tri.specs.Relabellings.{IsRelabelling}
 use Rattle.ideal_tri.specs.Triangulations.{IsTriangulation, IsLabel, edge_count}
 use Rattle.ideal_tri.specs.Labels.{edge_of}
 use Rattle.tri_atlas.specs.Moves.{Move, flip, unflip, relabel, IsMove, back_of}
 use Rattle.tri_atlas.specs.MapLaws.{MoveLaws}
 use Rattle.tri_atlas.specs.Paths.{is_flip}
-use Rattle.tri_atlas.proofs.Relabellings.{label_of_image}
 use Rattle.tri_atlas.specs.Arena.{Entry, Arena, EdgeHandle, MoveHandle, triangulation, entry_at, IsTriIn, IsEdgeIn, IsMoveIn, IsEntryOf, IsArena, Grows, flip_of, flip_entry, source_of, target_of, step_of, label_after, is_flipped_by, edge_after}
 
 -- ---- lists with one more element
@@ -134,11 +133,11 @@ flip_entry_kept old e after here flippable is =
     }
 
 -- a flip and its triangulation
-pub IsArena-flip : (old new : Arena) (e : EdgeHandle) (after : List (List ℤ)) → QuadrilateralLaws → IsArena old → IsEdgeIn old e
+pub IsArena-flip : (old new : Arena) (e : EdgeHandle) (after : List (List ℤ)) → FlipLaws → IsArena old → IsEdgeIn old e
     → IsFlippable (triangulation old e.tri) e.label → after ≡ flipped (triangulation old e.tri) e.label
     → new.triangulations ≡ old.triangulations ++ after ∷ [] → new.moves ≡ old.moves ++ flip_entry old e ∷ [] → IsArena new
 IsArena-flip old new e after laws h here flippable is t m =
-    let flip_laws : FlipLaws (triangulation old e.tri) e.label =
+    let flip_laws : OneFlipLaws (triangulation old e.tri) e.label =
     laws.flips (triangulation old e.tri) e.label (h.sound e.tri here.tri) here.label flippable in
     let between : Arena = record { triangulations = old.triangulations ++ after ∷ []; moves = old.moves; spare = 0 } in
     let sound : IsTriangulation after = subst IsTriangulation (sym is) flip_laws.triangulation in
@@ -185,11 +184,11 @@ leads laws arena m h here = by_direction m.backwards
     by_direction false = kept.move
 
 -- a label of the first triangulation goes to a label of the second
-label_carried : (before target : List (List ℤ)) (m : Move) (x : ℤ) → edge_count before ≡ edge_count target → IsMove before target m
-    → IsLabel before x → IsLabel target (label_after m x)
-label_carried before target (flip e a b c d) x n h l = subst (λ (k : ℕ). edge_of x < k) n l
-label_carried before target (unflip e a b c d) x n h l = subst (λ (k : ℕ). edge_of x < k) n l
-label_carried before target (relabel images) x n h l = label_of_image before target images x h l
+label_carried : MoveLaws → (before target : List (List ℤ)) (m : Move) (x : ℤ) → IsTriangulation before → IsTriangulation target
+    → edge_count before ≡ edge_count target → IsMove before target m → IsLabel before x → IsLabel target (label_after m x)
+label_carried laws before target (flip e a b c d) x p t n h l = subst (λ (k : ℕ). edge_of x < k) n l
+label_carried laws before target (unflip e a b c d) x p t n h l = subst (λ (k : ℕ). edge_of x < k) n l
+label_carried laws before target (relabel images) x p t n h l = ((laws.maps before target (relabel images) p t h).walks x l).0
 
 -- an edge that is carried is an edge of the atlas
 pub edge_carried : MoveLaws → (arena : Arena) (m : MoveHandle) (e : EdgeHandle) → IsArena arena → IsMoveIn arena m → IsEdgeIn arena e
@@ -200,7 +199,8 @@ edge_carried laws arena m e h here edge at =
     subst (λ (t : ℕ). IsLabel (triangulation arena t) e.label) at edge.label in
     record {
       tri = ends.1;
-      label = label_carried _ _ (step_of arena m) e.label (h.edges _ ends.0 ∙ sym (h.edges _ ends.1)) (leads laws arena m h here) label;
+      label = label_carried laws _ _ (step_of arena m) e.label (h.sound _ ends.0) (h.sound _ ends.1)
+          (h.edges _ ends.0 ∙ sym (h.edges _ ends.1)) (leads laws arena m h here) label;
     }
 
 -- a flip backwards takes the same edge away

@@ -2,11 +2,11 @@
 use Rattle.std.proofs.Common.{◌≡◌, ◌∙◌, ◌<◌, ◌++◌, [], ◌∷◌, ℕ, Bool, true, false, List, ℤ, refl, sym, ap, subst, length, map, arith, length-append}
 use Rattle.std.proofs.lemmas.List.{append-nil, append_assoc, get_or_append_left}
 use Rattle.ideal_tri.specs.Triangulations.{IsLabel}
-use Rattle.tri_atlas.specs.Moves.{Move, back_of}
-use Rattle.tri_atlas.specs.Arena.{Entry, Arena, EdgeHandle, MoveHandle, triangulation, entry_at, source_of, target_of, step_of, IsTriIn, IsEdgeIn, IsMoveIn, IsBeginning, Grows}
-use Rattle.tri_atlas.specs.Paths.{MovePath, Lead, IsPathIn}
+use Rattle.tri_atlas.specs.Moves.{Move, back_of, triangle_image}
+use Rattle.tri_atlas.specs.Arena.{Entry, Arena, EdgeHandle, MoveHandle, triangulation, entry_at, source_of, target_of, step_of, IsTriIn, IsEdgeIn, IsMoveIn, IsBeginning, IsArena, Grows}
+use Rattle.tri_atlas.specs.Paths.{MovePath, Lead, IsPathIn, triangle_along}
 use Rattle.tri_atlas.specs.ArenaLaws.{GrowthLaws}
-use Rattle.tri_atlas.proofs.Arenas.{triangulation_stays}
+use Rattle.tri_atlas.proofs.Arenas.{triangulation_stays, ends_in}
 
 -- ---- beginnings of lists
 
@@ -94,6 +94,28 @@ same_steps old new s t (m ∷ moves) g h =
     ap (λ (z : Move). z ∷ map (step_of new) moves) (same_step old new m g h.0)
     ∙ ap (λ (z : List Move). step_of old m ∷ z) (same_steps old new (target_of old m) t moves g h.2)
 
+-- triangles go the same way
+same_way : (old new : Arena) (m : MoveHandle) (t : ℕ) → IsArena old → Grows old new → IsMoveIn old m
+    → triangle_image (triangulation new (source_of new m)) (triangulation new (target_of new m)) (step_of new m) t
+    ≡ triangle_image (triangulation old (source_of old m)) (triangulation old (target_of old m)) (step_of old m) t
+same_way old new m t h g here =
+    ap (λ (z : List (List ℤ)). triangle_image z (triangulation new (target_of new m)) (step_of new m) t)
+    (ap (triangulation new) (same_source old new m g here) ∙ same_triangulation old new (source_of old m) g ends.0)
+    ∙ ap (λ (z : List (List ℤ)). triangle_image (triangulation old (source_of old m)) z (step_of new m) t)
+    (ap (triangulation new) (same_target old new m g here) ∙ same_triangulation old new (target_of old m) g ends.1)
+    ∙ ap (λ (n : Move). triangle_image (triangulation old (source_of old m)) (triangulation old (target_of old m)) n t)
+    (same_step old new m g here)
+  where
+    ends : IsTriIn old (source_of old m) × IsTriIn old (target_of old m)
+    ends = ends_in old m h here
+
+same_triangles : (old new : Arena) (s e t : ℕ) (moves : List MoveHandle) → IsArena old → Grows old new → Lead old s moves e
+    → triangle_along new moves t ≡ triangle_along old moves t
+same_triangles old new s e t [] h g l = refl
+same_triangles old new s e t (m ∷ moves) h g (here, at, rest) =
+    ap (triangle_along new moves) (same_way old new m t h g here)
+    ∙ same_triangles old new (target_of old m) e _ moves h g rest
+
 pub growth_laws : GrowthLaws
 growth_laws = record {
   none = grows_none;
@@ -106,5 +128,6 @@ growth_laws = record {
   target = same_target;
   step = same_step;
   path_in = path_stays_in;
+  triangles = λ old new path t a g h. same_triangles old new path.start path.end t path.moves a g h.moves_lead;
   moves = λ old new path g h. same_steps old new path.start path.end path.moves g h.moves_lead;
 }

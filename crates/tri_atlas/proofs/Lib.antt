@@ -1,13 +1,11 @@
 pub mod Examples
-pub mod Letters
+pub mod LowerLaws
 pub mod Substitutions
+pub mod WalkMaps
 pub mod FlipImages
 pub mod Flips
-pub mod Hits
-pub mod Relabellings
 pub mod Moves
 pub mod Paths
-pub mod Origins
 pub mod Arenas
 pub mod Kept
 pub mod AtlasPaths

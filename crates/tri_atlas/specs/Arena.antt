@@ -1,5 +1,5 @@
 -- An atlas: triangulations and the moves between them, and handles of its triangulations, edges and moves.
-use Rattle.std.specs.Prelude.{◌≡◌, ◌<◌, ℕ, ℤ, Bool, false, List, [], ◌++◌, length, take, slice_index_or, if◌then◌else◌, ◌||◌, not}
+use Rattle.std.specs.Prelude.{◌≡◌, ◌<◌, ◌+◌, ℕ, ℤ, Bool, false, List, [], ◌++◌, length, take, slice_index_or, if◌then◌else◌, ◌||◌, not}
 use Rattle.std.specs.Ordering.{int_eq}
 use Rattle.ideal_tri.specs.Labels.{inverse}
 use Rattle.ideal_tri.specs.Triangulations.{IsTriangulation, IsLabel, edge_count, next, previous}
@@ -12,7 +12,7 @@ pub record Entry : Type 0 where
   pub target : ℕ
   pub move : Move
 
--- the triangulations and the moves between them, and for how many pushes there is room
+-- the triangulations and the moves between them, and how many pushes take no memory: for so many there is room
 pub record Arena : Type 0 where
   pub triangulations : List (List (List ℤ))
   pub moves : List Entry
@@ -96,6 +96,10 @@ IsBeginning {A} xs ys = (rest : List A) × (ys ≡ xs ++ rest)
 pub record Grows (old new : Arena) : Type 0 where
   pub triangulations : IsBeginning old.triangulations new.triangulations
   pub moves : IsBeginning old.moves new.moves
+
+-- where there was room, that of one push is used
+abbrev pub UsesRoom : Arena → Arena → Type 0
+UsesRoom old new = 0 < old.spare → new.spare + 1 ≡ old.spare
 
 -- ---- edges across moves
 

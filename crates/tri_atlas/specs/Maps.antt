@@ -4,6 +4,7 @@ use Rattle.std.specs.List.{flat_map}
 use Rattle.std.specs.Ordering.{int_eq}
 use Rattle.ideal_tri.specs.Labels.{inverse}
 use Rattle.ideal_tri.specs.Words.{inverse_word, reduce, cyclic_reduce}
+use Rattle.ideal_tri.specs.Vectors.{IsMulticurve}
 use Rattle.ideal_tri.specs.Curves.{IsSameCurves, crossings}
 use Rattle.ideal_tri.specs.Strands.{State, IsDrawing, words_of}
 use Rattle.ideal_tri.specs.Triangulations.{IsLabel, IsWalk, edge_count, triangle_of}
@@ -67,8 +68,12 @@ letters_of triples f = letters_below (edge_count triples) f
 abbrev pub images_under : (ℤ → List ℤ) → List (List ℤ) → List (List ℤ)
 images_under f words = map (λ w. cyclic_reduce (flat_map f w)) words
 
--- the image of a vector under a map: the crossings of the images of its curves, however they are drawn
-pub record IsImageVector (triples : List (List ℤ)) (w : List ℕ) (f : ℤ → List ℤ) (v : List ℕ) : Type 0 where
+-- v is the image of the multicurve w under a map to a triangulation with as many edges: it counts
+-- the crossings of the images of the curves of w, however they are drawn
+pub record IsImageVector (triples : List (List ℤ)) (w : List ℕ) (f : ℤ → List ℤ) (v : List ℕ)
+    : Type 0 where
+  pub multicurve : IsMulticurve triples w
+  pub one_per_edge : length v ≡ edge_count triples
   pub counts : (runs : List (List State)) → IsDrawing triples w runs → (e : ℕ) → e < edge_count triples
       → slice_index v e ≡ crossings e (images_under f (words_of runs))
 

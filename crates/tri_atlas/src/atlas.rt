@@ -1,5 +1,5 @@
 //! The arena of triangulations and moves.
-ghost use Rattle.std.specs.Prelude.{◌≡◌, ◌<◌, ◌≤◌, ◌+◌, ℕ, [], ◌∷◌, ◌++◌, length, IfOk, OnOk, IfSome, IfNone};
+ghost use Rattle.std.specs.Prelude.{◌≡◌, ◌<◌, ◌≤◌, ◌+◌, ℕ, [], ◌∷◌, ◌++◌, length, IfOk, OnOk, OnErr, IfSome, IfNone};
 ghost use Rattle.ideal_tri.specs.Triangulations.{IsTriangulation, IsLabel, edge_count};
 ghost use Rattle.ideal_tri.specs.Flips.{IsFlippable, flipped};
 ghost use Rattle.ideal_tri.specs.Relabellings.{IsRelabelling};
@@ -11,7 +11,7 @@ ghost use Rattle.tri_atlas.specs.Paths.{is_flip};
 use crate::handles::{EdgeId, MoveId, TriId};
 use crate::laws::map_laws;
 use crate::step::{Carried, Step, backwards, is_flip, is_flipped, label_after};
-use ideal_tri::{Label, Memory, Tri, flip_laws, surface_laws};
+use ideal_tri::{Label, Memory, Tri, flip_laws, relabelling_laws, surface_laws};
 use std::alloc::Global;
 use std::marker::Model;
 
@@ -96,16 +96,26 @@ impl Atlas {
         }
     }
 
-    /// Makes room for `n` pushes. The triangulations and moves stay, also where memory is wanting.
+    /// Makes room for `n` pushes, which then take no memory. Where there is room for them already, or where memory is
+    /// wanting, nothing changes; it wants memory only where there is not the room.
     pub fn reserve(&mut self, n: usize) -> Result<(), Memory>
         ensures room { OnOk result (n ≤ self.new.spare) }
+        ensures wanting { OnErr result (self.old.spare < n) }
+        ensures enough { n ≤ self.old.spare → self.new ≡ self.old }
         ensures no_less { self.old.spare ≤ self.new.spare }
+        ensures unchanged { OnErr result (self.new ≡ self.old) }
         ensures triangulations { self.new.triangulations ≡ self.old.triangulations }
         ensures moves { self.new.moves ≡ self.old.moves }
         ensures grows { Grows self.old self.new }
     {
-        self.triangulations.reserve(n)?;
-        self.moves.reserve(n)?;
+        if n <= self.moves.capacity() - self.moves.len() {
+            return Ok(());
+        }
+        // the room at least doubles, so that to reserve for each push in turn copies a move only a few times
+        let room = n.max(self.moves.len());
+        // exactly this room for moves, so that the triangulations keep at least as much
+        self.triangulations.reserve(room)?;
+        self.moves.reserve_exact(room)?;
         Ok(())
     }
 
@@ -118,7 +128,7 @@ impl Atlas {
         requires flipped { after ≡ flipped (triangulation self.old e.tri) e.label }
         ensures triangulations { self.new.triangulations ≡ self.old.triangulations ++ after ∷ [] }
         ensures moves { self.new.moves ≡ self.old.moves ++ flip_entry self.old e ∷ [] }
-        ensures spare { self.old.spare ≤ self.new.spare + 1 }
+        ensures spare { self.new.spare + 1 ≡ self.old.spare }
         ensures handle { result ≡ newest self.old.moves }
         ensures grows { Grows self.old self.new }
         ensures here { IsMoveIn self.new result }
@@ -153,7 +163,7 @@ impl Atlas {
         requires carries { IsRelabelling (triangulation self.old from) (triangulation self.old to) (images_kept self.old from images) }
         ensures triangulations { self.new.triangulations ≡ self.old.triangulations }
         ensures moves { self.new.moves ≡ self.old.moves ++ relabel_entry self.old from to images ∷ [] }
-        ensures spare { self.old.spare ≤ self.new.spare + 1 }
+        ensures spare { self.new.spare + 1 ≡ self.old.spare }
         ensures handle { result ≡ newest self.old.moves }
         ensures grows { Grows self.old self.new }
         ensures here { IsMoveIn self.new result }
@@ -206,6 +216,7 @@ impl Atlas {
         requires { IsMoveIn self.now m }
         ensures { move_of (edge_count (triangulation self.now (source_of self.now m))) result ≡ step_of self.now m }
     {
+        relabelling_laws();
         let kept = &self.moves[m.number];
         if m.backwards {
             backwards(&kept.step, self.edges as usize)

@@ -1,5 +1,5 @@
 //! Paths of moves.
-ghost use Rattle.std.specs.Prelude.{◌≡◌, All, count_by, map, IfOk, OnOk, OnErr};
+ghost use Rattle.std.specs.Prelude.{◌≡◌, ◌≢◌, [], ◌++◌, All, count_by, map, IfOk, OnOk, OnErr};
 ghost use Rattle.tri_atlas.specs.Arena.{Arena, IsTriIn, IsMoveIn, source_of, target_of, step_of, back};
 ghost use Rattle.tri_atlas.specs.Paths.{IsPathIn, empty_path, then_move, joined, inverse_path, moves_of, is_flip};
 
@@ -51,14 +51,16 @@ impl Path {
         Ok(())
     }
 
-    /// Puts the moves of a path at the end, which starts where this one ends. The path is unchanged where memory is wanting.
+    /// Puts the moves of a path at the end, which starts where this one ends. The path is unchanged where memory is wanting;
+    /// for no moves none is wanted.
     pub fn append(&mut self, other: &Path) -> Result<(), Memory>
         requires follows { other.now.start ≡ self.old.end }
         ensures joined { OnOk result (self.new ≡ joined self.old other.now) }
+        ensures wanting { OnErr result (other.now.moves ≢ []) }
         ensures unchanged { OnErr result (self.new ≡ self.old) }
         ensures path { (arena : Arena) → IsPathIn arena self.old → IsPathIn arena other.now → IsPathIn arena self.new }
     {
-        self.moves.extend_from_slice(&other.moves)?;
+        extend(&mut self.moves, &other.moves)?;
         self.end = other.end;
         Ok(())
     }
@@ -106,6 +108,18 @@ impl Path {
     {
         count_flips(atlas, &self.moves)
     }
+}
+
+/// Puts the others at the end. `Vec::extend_from_slice` doesn't promise that it wants no memory for none.
+fn extend(moves: &mut Vec<MoveId>, others: &[MoveId]) -> Result<(), Memory>
+    ensures extended { OnOk result (moves.new.items ≡ moves.old.items ++ others.now) }
+    ensures wanting { OnErr result (others.now ≢ []) }
+    ensures unchanged { OnErr result (moves.new.items ≡ moves.old.items) }
+{
+    if !others.is_empty() {
+        moves.extend_from_slice(others)?;
+    }
+    Ok(())
 }
 
 // The same moves, each the other way.

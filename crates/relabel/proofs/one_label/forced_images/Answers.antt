@@ -23,5 +23,5 @@ loop-side-preserved c =
 
 pub returns-clause-forced : goal.returns-clause-forced
 returns-clause-forced c =
-    forced_list c.args.from.now c.args.to.now c.args.x c.args.y c.loop-side.images c.loop-side.known c.edges-edges.ensures.sound
+    forced_list c.args.from.now c.args.to.now c.args.x c.args.y c.loop-side.images c.loop-side.known c.edges-edges.ensures.sound c.requires.connected
     c.requires.label c.loop-side.invariant.forced c.in_default.ensures.none

@@ -1,4 +1,4 @@
-use Rattle.std.proofs.Common.{◌≡◌, ◌∙◌, ◌++◌, ◌∷◌, [], ℕ, ℤ, List, sym, ap, subst, length, map}
+use Rattle.std.proofs.Common.{arith, ◌≡◌, ◌∙◌, ◌++◌, ◌∷◌, [], ℕ, ℤ, List, sym, ap, subst, length, map}
 use Rattle.std.proofs.lemmas.List.{length-map}
 use Rattle.ideal_tri.specs.Triangulations.{edge_count}
 use Rattle.tri_atlas.specs.Arena.{Arena, Entry, IsArena, triangulation, flip_of, flip_entry}
@@ -37,6 +37,7 @@ pub invariant_of-self : goal.invariant_of-self
 invariant_of-self c = record {
   arena = IsArena-flip c.args.self.now _ c.args.e c.args.after c.flip_laws.ensures (arena_now c)
       c.requires.here c.requires.flippable c.requires.flipped (triangulations_now c) (moves_now c);
+  room = omega arith;
   edges =
       c.self.invariant.edges ∙ ap (λ (a : Arena). edge_count (triangulation a 0)) c.self.view_is
       ∙ sym (ap edge_count (triangulation_stays c.args.self.now.triangulations _ (c.args.after ∷ []) 0 (arena_now c).base (triangulations_now c)));

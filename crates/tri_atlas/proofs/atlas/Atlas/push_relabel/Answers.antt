@@ -1,4 +1,4 @@
-use Rattle.std.proofs.Common.{◌≡◌, ◌∙◌, ◌++◌, ◌∷◌, [], ℕ, sym, ap, subst, take, map, refl}
+use Rattle.std.proofs.Common.{arith, ◌≡◌, ◌∙◌, ◌++◌, ◌∷◌, [], ℕ, sym, ap, subst, take, map, refl}
 use Rattle.ideal_tri.specs.Triangulations.{edge_count}
 use Rattle.tri_atlas.specs.Moves.{relabel}
 use Rattle.tri_atlas.specs.Arena.{Arena, IsArena, triangulation, relabel_entry, images_kept}
@@ -24,6 +24,7 @@ pub invariant_of-self : goal.invariant_of-self
 invariant_of-self c = record {
   arena = IsArena-relabel c.args.self.now _ c.args.from c.args.to (images_kept c.args.self.now c.args.from c.args.images) (arena_now c)
       c.requires.from c.requires.to c.requires.carries (ap (λ (a : Arena). a.triangulations) c.self.view_is) (moves_now c);
+  room = omega arith;
   edges = c.self.invariant.edges;
 }
 
