@@ -6,7 +6,7 @@ use std::marker::Model;
 
 /// A directed edge of a triangulation (after Bell's flipper): edge `n` has the labels `n` and
 /// `-1 - n`. Labels mean nothing without their triangulation.
-#[derive(Clone, Copy, Debug, PartialEq, Eq)]
+#[derive(Clone, Copy, Debug, Default, PartialEq, Eq)]
 pub struct Label(i32);
 
 impl Model for Label {
