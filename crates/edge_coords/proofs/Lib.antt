@@ -1,0 +1,4 @@
+pub mod Triangles
+pub mod Kept
+pub mod Turns
+pub mod FirstPeripheral

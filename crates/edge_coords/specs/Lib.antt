@@ -1,0 +1,4 @@
+pub mod Coordinates
+pub mod Refusals
+pub mod PeripheralVertices
+pub mod inside
