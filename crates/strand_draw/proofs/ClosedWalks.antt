@@ -1,11 +1,11 @@
--- The walks along closed words are closed.
-use Rattle.std.proofs.Common.{ℕ, ℤ, List, [], ◌∷◌, ◌≡◌, ◌<◌, refl, sym, subst, map, length}
+-- The walks along words, and along closed words.
+use Rattle.std.proofs.Common.{ℕ, ℤ, List, [], ◌∷◌, ◌≡◌, refl, sym, ap, subst, map}
 use Rattle.std.specs.List.{All}
 use Rattle.std.proofs.lemmas.List.Elements.{All-map, All-weaker}
-use Rattle.ideal_tri.specs.Triangulations.{IsTriangulation, IsWalk, triangle_of}
+use Rattle.ideal_tri.specs.Triangulations.{IsTriangulation, IsWalk}
 use Rattle.ideal_tri.specs.SurfaceLaws.{TriangleLaws}
 use Rattle.free_groupoid.specs.Walks.{IsClosedOn}
-use Rattle.strand_draw.specs.Components.{walk_along}
+use Rattle.strand_draw.specs.inside.InOrder.{walk_along}
 
 module _ (triples : List (List ℤ)) (sound : IsTriangulation triples) (laws : TriangleLaws triples) where
   closed_along : (word : List ℤ) → (t : ℕ) × IsWalk triples t word t → IsClosedOn triples (walk_along triples word)
@@ -21,3 +21,8 @@ module _ (triples : List (List ℤ)) (sound : IsTriangulation triples) (laws : T
       All-map (IsClosedOn triples) (walk_along triples) words
       (All-weaker (λ word. (t : ℕ) × IsWalk triples t word t) (λ word. IsClosedOn triples (walk_along triples word))
       closed_along words h)
+
+pub letters-along : (triples : List (List ℤ)) (words : List (List ℤ))
+    → map (λ v. v.letters) (map (walk_along triples) words) ≡ words
+letters-along triples [] = refl
+letters-along triples (word ∷ words) = ap (λ (z : List (List ℤ)). word ∷ z) (letters-along triples words)

@@ -2,8 +2,8 @@
 --
 -- All strands are those before a strand, that strand, and others. So it is the least of its curve exactly where the
 -- curves so far do not use it, which its mark tells. If it is, its curve is the next one; otherwise none begins there.
-use Rattle.std.proofs.Common.{ℕ, zero, suc, ℤ, pos, Bool, true, false, cond, List, [], ◌∷◌, ◌++◌, ◌≡◌, ◌≢◌, ◌≤◌, ◌<◌, ◌+◌}
-use Rattle.std.proofs.Common.{◌↔◌, inl, inr, refl, sym, ◌∙◌, ap, subst, arith, take, drop, length, map, append_assoc}
+use Rattle.std.proofs.Common.{ℕ, zero, suc, ℤ, pos, Bool, true, false, cond, List, [], ◌∷◌, ◌++◌, ◌≡◌, ◌≢◌, ◌<◌, ◌+◌}
+use Rattle.std.proofs.Common.{inl, inr, refl, sym, ◌∙◌, ap, subst, arith, take, drop, length, map, append_assoc}
 use Rattle.std.specs.List.{range_with_len, flat_map, filter}
 use Rattle.std.specs.Prelude.{slice_index}
 use Rattle.std.proofs.lemmas.List.{take-append-drop, length-take-le, map-append, append-nil, take_more}
@@ -17,11 +17,10 @@ use Rattle.ideal_tri.specs.Triangulations.{triangle_of}
 use Rattle.ideal_tri.specs.Vectors.{IsMulticurve}
 use Rattle.ideal_tri.specs.Strands.{State, state_at, uses, word_of, words_of}
 use Rattle.ideal_tri.specs.StrandLaws.{StrandLaws}
-use Rattle.ideal_tri.specs.Drawings.{strands_from, strands, curve_from, is_least_of, least_among, curves_among, draw}
+use Rattle.ideal_tri.specs.Drawings.{strands_from, strands, curve_from, is_least_of, curves_among}
 use Rattle.free_groupoid.specs.Walks.{DualWalk}
-use Rattle.strand_draw.specs.Components.{walk_along, components}
 use Rattle.strand_draw.specs.inside.Marks.{HasStrand, AreMarked}
-use Rattle.strand_draw.specs.inside.InOrder.{strands_before, AreDrawn}
+use Rattle.strand_draw.specs.inside.InOrder.{strands_before, walk_along, AreDrawn}
 use Rattle.strand_draw.specs.declared.marks.Marks.{Marks}
 
 -- ---- the strands before one
@@ -61,12 +60,12 @@ pub before-next : (w : List ℕ) (e : ℕ) → e < length w
     → strands_before w (state_at (pos e) (slice_index w e)) ≡ strands_before w (state_at (pos (e + 1)) 0)
 before-next w e b =
     sym (
-      append-nil (strands_from 0 (take (e + 1) w))
-      ∙ ap (strands_from 0) (take_more w e 0 b)
-      ∙ strands_from-append 0 (take e w) (slice_index w e ∷ [])
-      ∙ ap (λ (z : List State). strands_from 0 (take e w) ++ z)
-      (append-nil (row (0 + length (take e w)) (slice_index w e))
-      ∙ ap (λ (k : ℕ). row k (slice_index w e)) (front w e b)))
+    append-nil (strands_from 0 (take (e + 1) w))
+    ∙ ap (strands_from 0) (take_more w e 0 b)
+    ∙ strands_from-append 0 (take e w) (slice_index w e ∷ [])
+    ∙ ap (λ (z : List State). strands_from 0 (take e w) ++ z)
+    (append-nil (row (0 + length (take e w)) (slice_index w e))
+    ∙ ap (λ (k : ℕ). row k (slice_index w e)) (front w e b)))
 
 row_split : (e a i n : ℕ) → i < n
     → (rest : List State) × (map (state_at (pos e)) (range_with_len a n)
@@ -80,7 +79,7 @@ row_split e a (suc i) (suc n) b =
     let (rest, is) = row_split e (a + 1) i n (omega arith) in (
       rest,
       ap (λ (z : List State). state_at (pos e) a ∷ z)
-      (is ∙ ap (λ (k : ℕ). map (state_at (pos e)) (range_with_len (a + 1) i) ++ (state_at (pos e) k ∷ rest)) (omega arith)),
+          (is ∙ ap (λ (k : ℕ). map (state_at (pos e)) (range_with_len (a + 1) i) ++ (state_at (pos e) k ∷ rest)) (omega arith)),
     )
 
 -- all strands are those before a strand, that strand, and others

@@ -2,7 +2,7 @@
 --
 -- A strand has the new mark where it has the same number, and then the longer run passes it. Every other strand is
 -- marked as before, and the new state does not pass it.
-use Rattle.std.proofs.Common.{ℕ, Bool, true, false, List, [], ◌∷◌, ◌++◌, ◌≡◌, ◌≢◌, ◌<◌, ◌+◌, ◌↔◌, inl, inr, sym, ◌∙◌}
+use Rattle.std.proofs.Common.{ℕ, Bool, true, false, List, [], ◌∷◌, ◌++◌, ◌≡◌, ◌≢◌, ◌<◌, ◌↔◌, inl, inr, sym, ◌∙◌}
 use Rattle.std.proofs.Common.{arith, length, get_or, get_or-set_other}
 use Rattle.std.proofs.Math.ListN.{set}
 use Rattle.std.specs.List.{sum}

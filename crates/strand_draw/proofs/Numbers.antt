@@ -3,17 +3,17 @@
 -- The numbers of an edge's strands begin at the sum of the entries before it. So a number fixes the edge and the place
 -- on it, seen from the label that is not negative, and two states of one number are equal or opposite. A run that is
 -- longer by one state therefore passes exactly the strands of that number besides those that it passed before.
-use Rattle.std.proofs.Common.{ℕ, zero, suc, ℤ, pos, negsuc, Bool, true, false, List, [], ◌∷◌, ◌++◌, ◌≡◌, ◌≢◌, ◌≤◌, ◌<◌}
-use Rattle.std.proofs.Common.{◌+◌, ◌-◌, ◌⊎◌, ◌↔◌, inl, inr, refl, sym, ◌∙◌, ap, subst, arith, take, length, eqb, cond}
+use Rattle.std.proofs.Common.{ℕ, ℤ, pos, negsuc, Bool, true, false, List, [], ◌∷◌, ◌++◌, ◌≡◌, ◌≢◌, ◌≤◌, ◌<◌}
+use Rattle.std.proofs.Common.{◌+◌, ◌⊎◌, inl, inr, sym, ◌∙◌, ap, arith, take, length, eqb, cond}
 use Rattle.std.specs.List.{sum, count_by}
 use Rattle.std.specs.Bool.{Decides}
 use Rattle.std.specs.Ordering.{int_eq}
 use Rattle.std.specs.Prelude.{slice_index}
 use Rattle.std.proofs.lemmas.Bool.{cases_eq, cases_lt, cases_Bool}
-use Rattle.std.proofs.lemmas.Bool.Decides.{Decides-int_eq, Decides-eqb, Decides-and, Decides-like}
+use Rattle.std.proofs.lemmas.Bool.Decides.{Decides-int_eq, Decides-eqb, Decides-and}
 use Rattle.std.proofs.lemmas.List.Sums.{sum_by-cons, sum_by-append, sum_by_more, sum_by_more_le}
 use Rattle.std.proofs.lemmas.List.{length-take-le, get_or-take, take-take}
-use Rattle.ideal_tri.specs.Labels.{inverse, edge_of}
+use Rattle.ideal_tri.specs.Labels.{edge_of}
 use Rattle.ideal_tri.specs.Vectors.{weight}
 use Rattle.ideal_tri.specs.Strands.{State, state_at, same_state, opposite, uses}
 use Rattle.ideal_tri.specs.Drawings.{strand_number, place_on_edge}
@@ -58,11 +58,17 @@ same_edge w p q h k e =
       | inr other ↦
           absurd (elim (cases_lt (edge_of p.label) (edge_of q.label)) [
             | inl b ↦
-                omega (arith, place_within w p.label p.place h.within,
-                sums_rise w (edge_of p.label) (edge_of q.label) b (omega (arith, k.edge)))
+                omega (
+                  arith,
+                  place_within w p.label p.place h.within,
+                  sums_rise w (edge_of p.label) (edge_of q.label) b (omega (arith, k.edge)),
+                )
             | inr b ↦
-                omega (arith, place_within w q.label q.place k.within,
-                sums_rise w (edge_of q.label) (edge_of p.label) (omega arith) (omega (arith, h.edge)))
+                omega (
+                  arith,
+                  place_within w q.label q.place k.within,
+                  sums_rise w (edge_of q.label) (edge_of p.label) (omega arith) (omega (arith, h.edge)),
+                )
           ])
     ]
 
@@ -130,8 +136,12 @@ passed_at_number w p q h k e none =
     elim (one_strand w p q h k e) [
       | inl s ↦ omega (arith, one p q, unit (same_state q p) (test_states q p (sym s)), none)
       | inr s ↦
-          omega (arith, one p (opposite w q), unit (same_state (opposite w q) p) (test_states (opposite w q) p (sym s)),
-          none)
+          omega (
+            arith,
+            one p (opposite w q),
+            unit (same_state (opposite w q) p) (test_states (opposite w q) p (sym s)),
+            none,
+          )
     ]
 
 pub unpassed_elsewhere : (w : List ℕ) (p q : State) → HasStrand w q → strand_number w p ≢ strand_number w q

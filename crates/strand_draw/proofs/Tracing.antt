@@ -2,8 +2,8 @@
 --
 -- The states so far run from the strand to the one that stands next, and the strand does not come back among them. Where
 -- the next one is the strand itself they are its curve; otherwise there are fewer of them than on the curve.
-use Rattle.std.proofs.Common.{ℕ, ℤ, Bool, true, false, not, List, [], ◌∷◌, ◌++◌, ◌≡◌, ◌≢◌, ◌≤◌, ◌<◌, ◌+◌, refl, sym, ◌∙◌, ap, subst, arith, length}
-use Rattle.std.proofs.Common.{map, append_assoc, length-append}
+use Rattle.std.proofs.Common.{ℕ, ℤ, Bool, true, false, not, List, [], ◌∷◌, ◌++◌, ◌≡◌, ◌≢◌, ◌<◌, refl, sym, ◌∙◌, ap, subst, arith, length}
+use Rattle.std.proofs.Common.{append_assoc}
 use Rattle.std.specs.List.{All}
 use Rattle.std.proofs.lemmas.List.{map-append, length-map}
 use Rattle.std.proofs.lemmas.List.Elements.{All-nil, All-cons, All-append}
@@ -11,7 +11,7 @@ use Rattle.ideal_tri.specs.Vectors.{IsMulticurve}
 use Rattle.ideal_tri.specs.Strands.{State, IsStrand, same_state, strand_step, Runs, word_of}
 use Rattle.ideal_tri.specs.StrandLaws.{StrandLaws}
 use Rattle.ideal_tri.specs.Drawings.{curve_from}
-use Rattle.strand_draw.specs.inside.Marks.{AreMarked, AreNumbered}
+use Rattle.strand_draw.specs.inside.Marks.{AreMarked}
 use Rattle.strand_draw.specs.declared.marks.Marks.{Marks}
 use Rattle.strand_draw.proofs.Numbers.{equal_states, test_states}
 

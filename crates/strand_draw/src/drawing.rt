@@ -1,17 +1,16 @@
 //! The components of a multicurve, as closed walks.
-ghost use Rattle.std.specs.Prelude.{◌≡◌, ◌<◌, ◌≤◌, ◌+◌, ◌^◌, ◌↔◌, ◌++◌, ℕ, pos, List, length, sum, All};
+ghost use Rattle.std.specs.Prelude.{◌≡◌, ◌<◌, ◌≤◌, ◌+◌, ◌^◌, ◌↔◌, ◌++◌, ℕ, pos, List, length, map, sum, All};
 ghost use Rattle.std.specs.Prelude.{IfOk, IfErr, OnOk, IsTrue};
 ghost use Rattle.ideal_tri.specs.Labels.{edge_of};
 ghost use Rattle.ideal_tri.specs.Triangulations.{IsLabel};
-ghost use Rattle.ideal_tri.specs.Strands.{State, IsStrand, state_at, word_of};
-ghost use Rattle.ideal_tri.specs.Drawings.{curve_from};
+ghost use Rattle.ideal_tri.specs.Strands.{State, IsStrand, state_at, word_of, words_of};
+ghost use Rattle.ideal_tri.specs.Drawings.{curve_from, draw};
 ghost use Rattle.tri_atlas.specs.Arena.{triangulation};
 ghost use Rattle.edge_coords.specs.Coordinates.{AreCoordinatesIn, total_of};
 ghost use Rattle.free_groupoid.specs.Walks.{IsClosedOn};
-ghost use Rattle.strand_draw.specs.Components.{components};
 ghost use Rattle.strand_draw.specs.Refusals.{IsRefusedFor};
 ghost use Rattle.strand_draw.specs.inside.Marks.{AreNumbered, AreMarked};
-ghost use Rattle.strand_draw.specs.inside.InOrder.{strands_before, AreDrawn};
+ghost use Rattle.strand_draw.specs.inside.InOrder.{strands_before, walk_along, AreDrawn};
 
 use crate::marks::Marks;
 use crate::strand::{Strand, step, step_laws, weight};
@@ -55,8 +54,8 @@ pub fn components(
 ) -> Result<Vec<Walk>, DrawError>
     requires coordinates { AreCoordinatesIn atlas.now w.now }
     requires cap { cap < 2 ^ 63 }
-    ensures drawn { IfOk result (λ walks. walks.items
-        ≡ components (triangulation atlas.now w.now.tri) w.now.numbers) }
+    ensures words { IfOk result (λ walks. map (λ v. v.letters) walks.items
+        ≡ words_of (draw (triangulation atlas.now w.now.tri) w.now.numbers)) }
     ensures closed { IfOk result (λ walks.
         All (IsClosedOn (triangulation atlas.now w.now.tri)) walks.items) }
     ensures within { IfOk result (λ _. total_of w.now.numbers ≤ cap) }
@@ -75,7 +74,7 @@ pub fn is_one_curve(alloc: Global, atlas: &Atlas, w: &Coords, cap: u64) -> Resul
     requires coordinates { AreCoordinatesIn atlas.now w.now }
     requires cap { cap < 2 ^ 63 }
     ensures value { IfOk result (λ one. IsTrue one
-        ↔ (length (components (triangulation atlas.now w.now.tri) w.now.numbers) ≡ 1)) }
+        ↔ (length (draw (triangulation atlas.now w.now.tri) w.now.numbers) ≡ 1)) }
     ensures within { IfOk result (λ _. total_of w.now.numbers ≤ cap) }
     ensures refused { IfErr result (IsRefusedFor w.now.numbers cap) }
 {
@@ -87,8 +86,8 @@ fn draw(alloc: Global, atlas: &Atlas, w: &Coords, total: usize) -> Result<Vec<Wa
     requires coordinates { AreCoordinatesIn atlas.now w.now }
     requires total { total ≡ sum w.now.numbers }
     requires few { total < 2 ^ 63 }
-    ensures drawn { IfOk result (λ walks. walks.items
-        ≡ components (triangulation atlas.now w.now.tri) w.now.numbers) }
+    ensures words { IfOk result (λ walks. map (λ v. v.letters) walks.items
+        ≡ words_of (draw (triangulation atlas.now w.now.tri) w.now.numbers)) }
     ensures closed { IfOk result (λ walks.
         All (IsClosedOn (triangulation atlas.now w.now.tri)) walks.items) }
 {
@@ -96,7 +95,14 @@ fn draw(alloc: Global, atlas: &Atlas, w: &Coords, total: usize) -> Result<Vec<Wa
     let mut marks = Marks::new(alloc, w, total)?;
     let mut walks = Vec::new(alloc);
     for e in 0..atlas.tri(w.tri()).edges() {
-        draw_edge(alloc, atlas, w, Label::new(e as i32), &mut marks, &mut walks)?;
+        draw_edge(
+            alloc,
+            atlas,
+            w,
+            Label::new(e as i32),
+            &mut marks,
+            &mut walks,
+        )?;
     }
     Ok(walks)
 }
@@ -105,7 +111,8 @@ fn draw(alloc: Global, atlas: &Atlas, w: &Coords, total: usize) -> Result<Vec<Wa
 fn are_closed(atlas: &Atlas, w: &Coords)
     requires { AreCoordinatesIn atlas.now w.now }
     ensures { All (IsClosedOn (triangulation atlas.now w.now.tri))
-        (components (triangulation atlas.now w.now.tri) w.now.numbers) }
+        (map (walk_along (triangulation atlas.now w.now.tri))
+        (words_of (draw (triangulation atlas.now w.now.tri) w.now.numbers))) }
 {
     let _ = atlas.tri(w.tri());
     drawing_laws();

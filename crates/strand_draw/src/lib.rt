@@ -6,9 +6,10 @@
 //! `is_one_curve` says whether there is exactly one. The time and the memory are in proportion to the
 //! number of strands, on which the caller sets a cap.
 //!
-//! What is listed is the drawing of `ideal_tri` that begins each curve at its least strand, in rising
-//! order of these: `specs/Components.antt`. That it is a drawing, and what holds of its words, are
-//! laws of `ideal_tri` (`drawing_laws`). `specs/inside` serves private functions alone.
+//! The words of these walks are those of `draw`, which stands in `Drawings` of `ideal_tri`: the drawing
+//! that begins each curve at its least strand, in rising order. That it is a drawing, and what holds of
+//! its words, are laws of `ideal_tri` (`drawing_laws`). Why a vector is refused stands in
+//! `specs/Refusals.antt`; `specs/inside` serves private functions alone.
 #![tactic(auto)]
 
 mod drawing;

@@ -18,10 +18,7 @@ fn is_walk(walk: &Walk, start: u32, letters: &[i32]) -> bool {
 
 #[test]
 fn torus(rt: HostRuntime) -> Result<(), Fail> {
-    let atlas = Atlas::new(
-        rt.alloc(),
-        Tri::from_triples(&[[0, 1, 2], [-1, -2, -3]])?,
-    )?;
+    let atlas = Atlas::new(rt.alloc(), Tri::from_triples(&[[0, 1, 2], [-1, -2, -3]])?)?;
     let w = Coords::new(&atlas, atlas.base(), &[1, 1, 0])?;
     let walks = components(rt.alloc(), &atlas, &w, 2)?;
     assert_eq!(rt; walks.len(), 1);
@@ -45,10 +42,7 @@ fn torus(rt: HostRuntime) -> Result<(), Fail> {
 
 #[test]
 fn through_folded_edges(rt: HostRuntime) -> Result<(), Fail> {
-    let atlas = Atlas::new(
-        rt.alloc(),
-        Tri::from_triples(&[[0, -1, 1], [-2, 2, -3]])?,
-    )?;
+    let atlas = Atlas::new(rt.alloc(), Tri::from_triples(&[[0, -1, 1], [-2, 2, -3]])?)?;
     let w = Coords::new(&atlas, atlas.base(), &[2, 2, 1])?;
     let walks = components(rt.alloc(), &atlas, &w, 100)?;
     assert_eq!(rt; walks.len(), 2);

@@ -2,15 +2,17 @@ use Rattle.std.proofs.Common.{ℕ, ℤ, List, ◌≡◌, arith, sym, ◌∙◌, 
 use Rattle.std.specs.List.{All}
 use Rattle.ideal_tri.specs.Triangulations.{edge_count}
 use Rattle.ideal_tri.specs.Strands.{State, words_of}
-use Rattle.ideal_tri.specs.Drawings.{curves_among}
+use Rattle.ideal_tri.specs.Drawings.{curves_among, draw}
 use Rattle.tri_atlas.specs.Arena.{triangulation}
 use Rattle.free_groupoid.specs.Walks.{DualWalk, IsClosedOn}
-use Rattle.strand_draw.specs.Components.{walk_along, components}
+use Rattle.strand_draw.specs.inside.InOrder.{walk_along}
 use Rattle.strand_draw.proofs.InOrder.{before-all}
+use Rattle.strand_draw.proofs.ClosedWalks.{letters-along}
 use Rattle.strand_draw.proofs.drawing.draw.Goals as goal
 
 all_drawn : (c : goal.After-drop-marks-2)
-    → c.loop-e.walks.items ≡ components (triangulation c.args.atlas.now c.args.w.now.tri) c.args.w.now.numbers
+    → c.loop-e.walks.items ≡ map (walk_along (triangulation c.args.atlas.now c.args.w.now.tri))
+    (words_of (draw (triangulation c.args.atlas.now c.args.w.now.tri) c.args.w.now.numbers))
 all_drawn c =
     let triples : List (List ℤ) = triangulation c.args.atlas.now c.args.w.now.tri in
     let w : List ℕ = c.args.w.now.numbers in
@@ -22,8 +24,11 @@ all_drawn c =
     c.loop-e.invariant.listed
     ∙ ap (λ (z : List State). map (walk_along triples) (words_of (curves_among triples w z))) (before-all w c.loop-e.e full)
 
-pub returns-clause-drawn : goal.returns-clause-drawn
-returns-clause-drawn c = all_drawn c
+pub returns-clause-words : goal.returns-clause-words
+returns-clause-words c =
+    let triples : List (List ℤ) = triangulation c.args.atlas.now c.args.w.now.tri in
+    ap (map (λ (v : DualWalk). v.letters)) (all_drawn c)
+    ∙ letters-along triples (words_of (draw triples c.args.w.now.numbers))
 
 pub returns-clause-closed : goal.returns-clause-closed
 returns-clause-closed c =

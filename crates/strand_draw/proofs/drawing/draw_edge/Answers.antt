@@ -1,4 +1,4 @@
-use Rattle.std.proofs.Common.{ℕ, ℤ, List, ◌≡◌, arith, ◌∙◌, ap, subst, get_or}
+use Rattle.std.proofs.Common.{ℕ, List, ◌≡◌, arith, ◌∙◌, ap, subst, get_or}
 use Rattle.ideal_tri.specs.Labels.{edge_of}
 use Rattle.ideal_tri.specs.Strands.{State, state_at}
 use Rattle.tri_atlas.specs.Arena.{triangulation}

@@ -1,13 +1,12 @@
-use Rattle.std.proofs.Common.{ℕ, ℤ, List, [], ◌∷◌, ◌++◌, ◌≡◌, ◌≢◌, ◌<◌, arith, length, sym, ◌∙◌, ap, subst}
+use Rattle.std.proofs.Common.{ℕ, ℤ, List, [], ◌∷◌, ◌++◌, ◌≡◌, ◌≢◌, arith, sym, ◌∙◌, ap, subst}
 use Rattle.std.specs.Prelude.{IsTrue}
 use Rattle.std.specs.List.{flat_map}
-use Rattle.ideal_tri.specs.Strands.{State, state_at, uses, word_of}
+use Rattle.ideal_tri.specs.Strands.{State, uses, word_of}
 use Rattle.ideal_tri.specs.Drawings.{curve_from, curves_among}
 use Rattle.tri_atlas.specs.Arena.{triangulation}
 use Rattle.free_groupoid.specs.Walks.{DualWalk}
-use Rattle.strand_draw.specs.Components.{walk_along}
 use Rattle.strand_draw.specs.inside.Marks.{HasStrand}
-use Rattle.strand_draw.specs.inside.InOrder.{AreDrawn, strands_before}
+use Rattle.strand_draw.specs.inside.InOrder.{AreDrawn, strands_before, walk_along}
 use Rattle.strand_draw.proofs.InOrder.{Ahead, ahead_of, before-with, walk-along, drawn-free, drawn-used}
 use Rattle.strand_draw.proofs.drawing.draw_strand.Goals as goal
 

@@ -1,4 +1,4 @@
-use Rattle.std.proofs.Common.{ℤ, List, [], ◌∷◌, ◌++◌, ◌≡◌, ◌≢◌, ◌<◌, arith, length, sym, ◌∙◌, ap, subst}
+use Rattle.std.proofs.Common.{ℤ, List, [], ◌∷◌, ◌++◌, ◌≢◌, ◌<◌, arith, length, sym, ◌∙◌, ap, subst}
 use Rattle.tri_atlas.specs.Arena.{triangulation}
 use Rattle.ideal_tri.specs.Strands.{State}
 use Rattle.ideal_tri.specs.Drawings.{curve_from}

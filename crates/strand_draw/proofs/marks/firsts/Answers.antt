@@ -1,4 +1,4 @@
-use Rattle.std.proofs.Common.{ℕ, ◌≡◌, ◌<◌, ◌+◌, inl, inr, sym, ◌∙◌, ap, arith, length, take, get_or-set_other}
+use Rattle.std.proofs.Common.{ℕ, ◌<◌, inl, inr, sym, ◌∙◌, ap, arith, length, take, get_or-set_other}
 use Rattle.std.specs.List.{sum}
 use Rattle.std.proofs.lemmas.Bool.{cases_eq}
 use Rattle.std.proofs.lemmas.Grind.{get_or-set_at}

@@ -1,4 +1,4 @@
-use Rattle.std.proofs.Common.{ℕ, ◌++◌, ◌∷◌, [], true, sym, ◌∙◌, subst, length}
+use Rattle.std.proofs.Common.{ℕ, ◌++◌, ◌∷◌, [], true, sym, ◌∙◌, subst}
 use Rattle.std.proofs.Math.ListN.{set}
 use Rattle.std.proofs.lemmas.List.{length-set}
 use Rattle.strand_draw.proofs.Marking.{Passed, passed_more}
