@@ -2,7 +2,7 @@
 --
 -- All strands are those before a strand, that strand, and others. So it is the least of its curve exactly where the
 -- curves so far do not use it, which its mark tells. If it is, its curve is the next one; otherwise none begins there.
-use Rattle.std.proofs.Common.{ℕ, zero, suc, ℤ, pos, Bool, true, false, cond, List, [], ◌∷◌, ◌++◌, ◌≡◌, ◌≢◌, ◌<◌, ◌+◌}
+use Rattle.std.proofs.Common.{ℕ, zero, suc, ℤ, pos, Bool, true, false, cond, List, [], ◌∷◌, ◌++◌, ◌≡◌, ◌≢◌, ◌<◌, ◌+◌, ◌↔◌}
 use Rattle.std.proofs.Common.{inl, inr, refl, sym, ◌∙◌, ap, subst, arith, take, drop, length, map, append_assoc}
 use Rattle.std.specs.List.{range_with_len, flat_map, filter}
 use Rattle.std.specs.Prelude.{slice_index}
@@ -15,7 +15,7 @@ use Rattle.std.proofs.lemmas.List.FromFn.{map-range_with_len_more}
 use Rattle.ideal_tri.specs.Labels.{edge_of}
 use Rattle.ideal_tri.specs.Triangulations.{triangle_of}
 use Rattle.ideal_tri.specs.Vectors.{IsMulticurve}
-use Rattle.ideal_tri.specs.Strands.{State, state_at, uses, word_of, words_of}
+use Rattle.ideal_tri.specs.Strands.{State, IsStrand, state_at, uses, word_of, words_of}
 use Rattle.ideal_tri.specs.StrandLaws.{StrandLaws}
 use Rattle.ideal_tri.specs.Drawings.{strands_from, strands, curve_from, is_least_of, curves_among}
 use Rattle.free_groupoid.specs.Walks.{DualWalk}
@@ -172,41 +172,56 @@ module _ (triples : List (List ℤ)) (w : List ℕ) where
       sym (flat_map-append (λ (run : List State). run) curves (c ∷ [])
       ∙ ap (λ (z : List State). flat_map (λ run. run) curves ++ z) (append-nil c))
 
-  module _ (laws : StrandLaws triples) (good : IsMulticurve triples w) (q : State) (before after : List State)
-      (is : strands w ≡ before ++ (q ∷ after)) where
+  module _ (laws : StrandLaws triples) (good : IsMulticurve triples w) (q : State) (v : IsStrand triples w q)
+      (positive : q.label ≡ pos (edge_of q.label)) where
+    abbrev before : List State
+    before = strands_before w q
+
+    abbrev curves : List (List State)
+    curves = curves_among triples w before
+
+    abbrev c : List State
+    c = curve_from triples w q
+
+    abbrev next : List State
+    next = strands_before w (state_at q.label (q.place + 1))
+
+    ahead_of_it : Ahead w q
+    ahead_of_it =
+        ahead_of w q (record { edge = omega (arith, v.is_label, good.one_per_edge); within = v.within }) positive
+
+    fresh : (is_least_of w q c ≡ true) ↔ (uses w q (flat_map (λ run. run) curves) ≡ 0)
+    fresh = laws.fresh w q before ahead_of_it.after good ahead_of_it.is
+
     -- a strand that no curve uses yet begins the next one
-    pub drawn-free : (m next : Marks) (walks : List DualWalk) (walk : DualWalk) → AreDrawn triples w before m walks
-        → uses w q (flat_map (λ run. run) (curves_among triples w before)) ≡ 0
-        → walk ≡ walk_along triples (word_of (curve_from triples w q))
-        → ((run : List State) → AreMarked w m run → AreMarked w next (run ++ curve_from triples w q))
-        → AreDrawn triples w (before ++ (q ∷ [])) next (walks ++ (walk ∷ []))
-    drawn-free m next walks walk d free word marked =
-        let curves : List (List State) = curves_among triples w before in
-        let c : List State = curve_from triples w q in
-        let more : curves_among triples w (before ++ (q ∷ [])) ≡ curves ++ (c ∷ []) =
-        curves-least before q ((laws.fresh w q before after good is).1 free) in
+    pub drawn-free : (m marked : Marks) (walks now : List DualWalk) (walk : DualWalk) → AreDrawn triples w before m walks
+        → uses w q (flat_map (λ run. run) curves) ≡ 0 → walk ≡ walk_along triples (word_of c)
+        → now ≡ walks ++ (walk ∷ [])
+        → ((run : List State) → AreMarked w m run → AreMarked w marked (run ++ c)) → AreDrawn triples w next marked now
+    drawn-free m marked walks now walk d free word push more =
+        let all : curves ++ (c ∷ []) ≡ curves_among triples w next =
+        sym (curves-least before q (fresh.1 free)) ∙ ap (curves_among triples w) (before-with w q positive) in
         record {
           marked =
-              subst (AreMarked w next) (joined-push curves c ∙ ap (flat_map (λ run. run)) (sym more))
-              (marked (flat_map (λ run. run) curves) d.marked);
+              subst (AreMarked w marked) (joined-push curves c ∙ ap (flat_map (λ run. run)) all)
+              (more (flat_map (λ run. run) curves) d.marked);
           listed =
-              ap (λ (z : List DualWalk). z ++ (walk ∷ [])) d.listed
+              push
+              ∙ ap (λ (z : List DualWalk). z ++ (walk ∷ [])) d.listed
               ∙ ap (λ (z : DualWalk). map (walk_along triples) (words_of curves) ++ (z ∷ [])) word
               ∙ sym (listed-push curves c)
-              ∙ ap (λ (z : List (List State)). map (walk_along triples) (words_of z)) (sym more);
+              ∙ ap (λ (z : List (List State)). map (walk_along triples) (words_of z)) all;
         }
 
     -- a strand that a curve uses already begins none
     pub drawn-used : (m : Marks) (walks : List DualWalk) → AreDrawn triples w before m walks
-        → uses w q (flat_map (λ run. run) (curves_among triples w before)) ≢ 0
-        → AreDrawn triples w (before ++ (q ∷ [])) m walks
+        → uses w q (flat_map (λ run. run) curves) ≢ 0 → AreDrawn triples w next m walks
     drawn-used m walks d used =
-        let none : curves_among triples w (before ++ (q ∷ [])) ≡ curves_among triples w before =
-        curves-other before q (elim (cases_Bool (is_least_of w q (curve_from triples w q))) [
-          | inl t ↦ absurd (used ((laws.fresh w q before after good is).0 t))
-          | inr f ↦ f
-        ]) in
+        let other : is_least_of w q c ≡ false =
+        elim (cases_Bool (is_least_of w q c)) [ inl t ↦ absurd (used (fresh.0 t)) | inr f ↦ f ] in
+        let none : curves ≡ curves_among triples w next =
+        sym (curves-other before q other) ∙ ap (curves_among triples w) (before-with w q positive) in
         record {
-          marked = subst (λ (z : List (List State)). AreMarked w m (flat_map (λ run. run) z)) (sym none) d.marked;
-          listed = d.listed ∙ ap (λ (z : List (List State)). map (walk_along triples) (words_of z)) (sym none);
+          marked = subst (λ (z : List (List State)). AreMarked w m (flat_map (λ run. run) z)) none d.marked;
+          listed = d.listed ∙ ap (λ (z : List (List State)). map (walk_along triples) (words_of z)) none;
         }

@@ -93,11 +93,11 @@ one_strand w p q h k e =
     seen w p.label q.label p.place q.place s h.within k.within
     (omega (arith, ap (λ (f : ℕ). sum (take f w)) s))
 
--- the number is the same from both sides
-number-opposite : (w : List ℕ) (x : ℤ) (i : ℕ) → i < weight w x
-    → strand_number w (opposite w (state_at x i)) ≡ strand_number w (state_at x i)
-number-opposite w (pos e) i b = omega arith
-number-opposite w (negsuc e) i b = omega arith
+-- a strand of another number is not the same one from the other side
+apart : (w : List ℕ) (p : State) (x : ℤ) (i : ℕ) → i < weight w x → strand_number w p ≢ strand_number w (state_at x i)
+    → opposite w (state_at x i) ≢ p
+apart w p (pos e) i b ne is = ne (ap (strand_number w) (sym is) ∙ omega arith)
+apart w p (negsuc e) i b ne is = ne (ap (strand_number w) (sym is) ∙ omega arith)
 
 -- ---- passes of one state more
 
@@ -115,11 +115,9 @@ test_states p q e = (same p q).1 (ap (λ (r : State). r.label) e, ap (λ (r : St
 one : (p q : State) → count_by (same_state q) (p ∷ []) ≡ cond (same_state q p) 1 0
 one p q = omega (arith, sum_by-cons (λ r. cond (same_state q r) 1 0) p [])
 
-unit : (b : Bool) → b ≡ true → ◌≡◌ {A = ℕ} (cond b 1 0) 1
-unit b e = ap (λ (t : Bool). cond t 1 0) e
-
-nothing : (b : Bool) → b ≡ false → ◌≡◌ {A = ℕ} (cond b 1 0) 0
-nothing b e = ap (λ (t : Bool). cond t 1 0) e
+-- what a test counts
+abbrev tell : Bool → ℕ
+tell b = cond b 1 0
 
 pub uses-more : (w : List ℕ) (q : State) (run others : List State)
     → uses w q (run ++ others) ≡ uses w q run + uses w q others
@@ -134,12 +132,12 @@ pub passed_at_number : (w : List ℕ) (p q : State) → HasStrand w p → HasStr
     → strand_number w p ≡ strand_number w q → uses w q (p ∷ []) ≢ 0
 passed_at_number w p q h k e none =
     elim (one_strand w p q h k e) [
-      | inl s ↦ omega (arith, one p q, unit (same_state q p) (test_states q p (sym s)), none)
+      | inl s ↦ omega (arith, one p q, ap tell (test_states q p (sym s)), none)
       | inr s ↦
           omega (
             arith,
             one p (opposite w q),
-            unit (same_state (opposite w q) p) (test_states (opposite w q) p (sym s)),
+            ap tell (test_states (opposite w q) p (sym s)),
             none,
           )
     ]
@@ -154,15 +152,13 @@ unpassed_elsewhere w p q k ne =
     ] in
     let not_back : same_state (opposite w q) p ≡ false =
     elim (cases_Bool (same_state (opposite w q) p)) [
-      | inl t ↦
-          absurd (ne (ap (strand_number w) (sym (equal_states (opposite w q) p t))
-          ∙ number-opposite w q.label q.place k.within))
+      | inl t ↦ absurd (apart w p q.label q.place k.within ne (equal_states (opposite w q) p t))
       | inr f ↦ f
     ] in
     omega (
       arith,
       one p q,
       one p (opposite w q),
-      nothing (same_state q p) no,
-      nothing (same_state (opposite w q) p) not_back,
+      ap tell no,
+      ap tell not_back,
     )
