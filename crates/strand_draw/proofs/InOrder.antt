@@ -2,7 +2,8 @@
 --
 -- All strands are those before a strand, that strand, and others. So it is the least of its curve exactly where the
 -- curves so far do not use it, which its mark tells. If it is, its curve is the next one; otherwise none begins there.
-use Rattle.std.proofs.Common.{ℕ, zero, suc, ℤ, pos, Bool, true, false, cond, List, [], ◌∷◌, ◌++◌, ◌≡◌, ◌≢◌, ◌<◌, ◌+◌, ◌↔◌}
+use Rattle.std.proofs.Common.{ℕ, zero, suc, ℤ, pos, Bool, true, false, cond, List, [], ◌∷◌, ◌++◌, ◌≡◌, ◌≢◌, ◌<◌, ◌+◌}
+use Rattle.std.proofs.Common.{◌↔◌}
 use Rattle.std.proofs.Common.{inl, inr, refl, sym, ◌∙◌, ap, subst, arith, take, drop, length, map, append_assoc}
 use Rattle.std.specs.List.{range_with_len, flat_map, filter}
 use Rattle.std.specs.Prelude.{slice_index}
@@ -25,7 +26,8 @@ use Rattle.strand_draw.specs.declared.marks.Marks.{Marks}
 
 -- ---- the strands before one
 
-strands_from-append : (e : ℕ) (u v : List ℕ) → strands_from e (u ++ v) ≡ strands_from e u ++ strands_from (e + length u) v
+strands_from-append : (e : ℕ) (u v : List ℕ) → strands_from e (u ++ v)
+    ≡ strands_from e u ++ strands_from (e + length u) v
 strands_from-append e [] v = ap (λ (k : ℕ). strands_from k v) (omega arith)
 strands_from-append e (n ∷ u) v =
     ap (λ (z : List State). map (state_at (pos e)) (range_with_len 0 n) ++ z)
@@ -52,8 +54,9 @@ before-all w e is =
 pub before-more : (w : List ℕ) (e i : ℕ)
     → strands_before w (state_at (pos e) (i + 1)) ≡ strands_before w (state_at (pos e) i) ++ (state_at (pos e) i ∷ [])
 before-more w e i =
-    ap (λ (z : List State). strands_from 0 (take e w) ++ z) (map-range_with_len_more (state_at (pos e)) 0 i i (omega arith))
-    ∙ sym (append_assoc (strands_from 0 (take e w)) (map (state_at (pos e)) (range_with_len 0 i)) (state_at (pos e) i ∷ []))
+    ap (λ (z : List State). strands_from 0 (take e w) ++ z)
+    (map-range_with_len_more (state_at (pos e)) 0 i i (omega arith))
+    ∙ sym (append_assoc (strands_from 0 (take e w)) (row e i) (state_at (pos e) i ∷ []))
 
 -- with the last strand of an edge all of its strands are drawn
 pub before-next : (w : List ℕ) (e : ℕ) → e < length w
@@ -79,7 +82,9 @@ row_split e a (suc i) (suc n) b =
     let (rest, is) = row_split e (a + 1) i n (omega arith) in (
       rest,
       ap (λ (z : List State). state_at (pos e) a ∷ z)
-          (is ∙ ap (λ (k : ℕ). map (state_at (pos e)) (range_with_len (a + 1) i) ++ (state_at (pos e) k ∷ rest)) (omega arith)),
+          (is
+          ∙ ap (λ (k : ℕ). map (state_at (pos e)) (range_with_len (a + 1) i) ++ (state_at (pos e) k ∷ rest))
+          (omega arith)),
     )
 
 -- all strands are those before a strand, that strand, and others
@@ -102,7 +107,8 @@ ahead w e i b c =
       is =
           all
           ∙ ap (λ (z : List State). strands_from 0 (take e w) ++ (z ++ later)) split
-          ∙ ap (λ (k : ℕ). strands_from 0 (take e w) ++ ((row e i ++ (state_at (pos e) k ∷ rest)) ++ later)) (omega arith)
+          ∙ ap (λ (k : ℕ). strands_from 0 (take e w) ++ ((row e i ++ (state_at (pos e) k ∷ rest)) ++ later))
+          (omega arith)
           ∙ ap (λ (z : List State). strands_from 0 (take e w) ++ z)
           (append_assoc (row e i) (state_at (pos e) i ∷ rest) later)
           ∙ sym (append_assoc (strands_from 0 (take e w)) (row e i) (state_at (pos e) i ∷ (rest ++ later)));
@@ -152,7 +158,8 @@ module _ (triples : List (List ℤ)) (w : List ℕ) where
   -- the walk along the curve of a strand starts at the triangle of that strand
   pub walk-along : (tri : List (List ℤ)) (x : ℤ) (q : State) (start : ℕ) (letters : List ℤ)
       → start ≡ triangle_of tri x → tri ≡ triples → x ≡ q.label → letters ≡ word_of (curve_from triples w q)
-      → ◌≡◌ {A = DualWalk} (record { start = start; letters = letters }) (walk_along triples (word_of (curve_from triples w q)))
+      → ◌≡◌ {A = DualWalk} (record { start = start; letters = letters })
+      (walk_along triples (word_of (curve_from triples w q)))
   walk-along tri x q start letters at e f word =
       let there : start ≡ triangle_of triples q.label =
       at ∙ ap (λ (z : List (List ℤ)). triangle_of z x) e ∙ ap (triangle_of triples) f in
@@ -194,7 +201,8 @@ module _ (triples : List (List ℤ)) (w : List ℕ) where
     fresh = laws.fresh w q before ahead_of_it.after good ahead_of_it.is
 
     -- a strand that no curve uses yet begins the next one
-    pub drawn-free : (m marked : Marks) (walks now : List DualWalk) (walk : DualWalk) → AreDrawn triples w before m walks
+    pub drawn-free : (m marked : Marks) (walks now : List DualWalk) (walk : DualWalk)
+        → AreDrawn triples w before m walks
         → uses w q (flat_map (λ run. run) curves) ≡ 0 → walk ≡ walk_along triples (word_of c)
         → now ≡ walks ++ (walk ∷ [])
         → ((run : List State) → AreMarked w m run → AreMarked w marked (run ++ c)) → AreDrawn triples w next marked now

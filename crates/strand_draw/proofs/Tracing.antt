@@ -1,8 +1,9 @@
 -- The curve of a strand, as it is traced.
 --
--- The states so far run from the strand to the one that stands next, and the strand does not come back among them. Where
--- the next one is the strand itself they are its curve; otherwise there are fewer of them than on the curve.
-use Rattle.std.proofs.Common.{ℕ, ℤ, Bool, true, false, not, List, [], ◌∷◌, ◌++◌, ◌≡◌, ◌≢◌, ◌<◌, refl, sym, ◌∙◌, ap, subst, arith, length}
+-- The states so far run from the strand to the one that stands next, and the strand does not come back among them.
+-- Where the next one is the strand itself they are its curve; otherwise there are fewer of them than on the curve.
+use Rattle.std.proofs.Common.{ℕ, ℤ, Bool, true, false, not, List, [], ◌∷◌, ◌++◌, ◌≡◌, ◌≢◌, ◌<◌, refl, sym, ◌∙◌, ap}
+use Rattle.std.proofs.Common.{subst, arith, length}
 use Rattle.std.proofs.Common.{append_assoc}
 use Rattle.std.specs.List.{All}
 use Rattle.std.proofs.lemmas.List.{map-append, length-map}
@@ -64,7 +65,8 @@ module _ (triples : List (List ℤ)) (w : List ℕ) where
         ap (λ (z : List ℤ). z ++ (at.label ∷ [])) t.word
         ∙ sym (map-append (λ (p : State). p.label) (q ∷ t.run) (at ∷ []));
     marked = λ seen h.
-        subst (AreMarked w after) (append_assoc seen (q ∷ t.run) (at ∷ [])) (marked (seen ++ (q ∷ t.run)) (t.marked seen h));
+        subst (AreMarked w after) (append_assoc seen (q ∷ t.run) (at ∷ []))
+        (marked (seen ++ (q ∷ t.run)) (t.marked seen h));
   }
 
   module _ (laws : StrandLaws triples) (good : IsMulticurve triples w) (q at : State) (v : IsStrand triples w q)

@@ -1,5 +1,6 @@
 //! The components of a multicurve, as closed walks.
-ghost use Rattle.std.specs.Prelude.{◌≡◌, ◌<◌, ◌≤◌, ◌+◌, ◌^◌, ◌↔◌, ◌++◌, ℕ, pos, List, length, map, sum, All};
+ghost use Rattle.std.specs.Prelude.{◌≡◌, ◌<◌, ◌≤◌, ◌+◌, ◌^◌, ◌↔◌, ◌++◌, ℕ, pos, List, length, map};
+ghost use Rattle.std.specs.Prelude.{sum, All};
 ghost use Rattle.std.specs.Prelude.{IfOk, IfErr, OnOk, IsTrue};
 ghost use Rattle.ideal_tri.specs.Labels.{edge_of};
 ghost use Rattle.ideal_tri.specs.Triangulations.{IsLabel};
@@ -43,9 +44,10 @@ impl From<Memory> for DrawError {
 }
 
 /// The components of a multicurve, each as the closed walk of the letters that it crosses. They are
-/// ordered by their least strands (by edge, and then from the tail of the label that isn't negative),
-/// and each begins there, with that label. `TotalOver` exactly where there are more strands than the
-/// cap, which is below 2^63. The time and the memory are in proportion to the strands.
+/// ordered by their least strands (by edge, and then from the tail of the label that isn't
+/// negative), and each begins there, with that label. `TotalOver` exactly where there are more
+/// strands than the cap, which is below 2^63. The time and the memory are in proportion to the
+/// strands.
 pub fn components(
     alloc: Global,
     atlas: &Atlas,
@@ -68,8 +70,8 @@ pub fn components(
     Ok(draw(alloc, atlas, w, total as usize)?)
 }
 
-/// Whether a multicurve has exactly one component. `TotalOver` exactly where it has more strands than
-/// the cap, which is below 2^63.
+/// Whether a multicurve has exactly one component. `TotalOver` exactly where it has more strands
+/// than the cap, which is below 2^63.
 pub fn is_one_curve(alloc: Global, atlas: &Atlas, w: &Coords, cap: u64) -> Result<bool, DrawError>
     requires coordinates { AreCoordinatesIn atlas.now w.now }
     requires cap { cap < 2 ^ 63 }
@@ -134,7 +136,8 @@ fn draw_edge(
     requires drawn { AreDrawn (triangulation atlas.now w.now.tri) w.now.numbers
         (strands_before w.now.numbers (state_at x 0)) marks.old walks.old.items }
     ensures { OnOk result (AreDrawn (triangulation atlas.now w.now.tri) w.now.numbers
-        (strands_before w.now.numbers (state_at (pos (edge_of x + 1)) 0)) marks.new walks.new.items) }
+        (strands_before w.now.numbers (state_at (pos (edge_of x + 1)) 0)) marks.new
+        walks.new.items) }
 {
     for place in 0..weight(w, x) {
         draw_strand(alloc, atlas, w, Strand { label: x, place }, marks, walks)?;

@@ -1,5 +1,6 @@
 //! Which strands have been drawn.
-ghost use Rattle.std.specs.Prelude.{◌≡◌, ◌<◌, ◌≤◌, ◌^◌, ◌↔◌, ◌++◌, ◌∷◌, [], ℕ, List, length, sum, take};
+ghost use Rattle.std.specs.Prelude.{◌≡◌, ◌<◌, ◌≤◌, ◌^◌, ◌↔◌, ◌++◌, ◌∷◌, [], ℕ, List, length, sum};
+ghost use Rattle.std.specs.Prelude.{take};
 ghost use Rattle.std.specs.Prelude.{slice_index, IfOk, IsTrue};
 ghost use Rattle.ideal_tri.specs.Strands.{State, uses};
 ghost use Rattle.ideal_tri.specs.Drawings.{strand_number};

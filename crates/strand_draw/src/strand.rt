@@ -13,8 +13,8 @@ use ideal_tri::{Label, Tri, drawing_laws, strand_laws};
 use std::marker::Model;
 use tri_atlas::Atlas;
 
-/// A strand as it is seen from one side of its edge: a label, and a place counted from its tail, from
-/// 0, below the number of the edge.
+/// A strand as it is seen from one side of its edge: a label, and a place counted from its tail,
+/// from 0, below the number of the edge.
 #[derive(Clone, Copy, Debug, PartialEq, Eq)]
 pub(crate) struct Strand {
     pub(crate) label: Label,
@@ -39,8 +39,8 @@ pub(crate) fn weight(w: &Coords, x: Label) -> u128
     w.values()[x.edge() as usize]
 }
 
-/// The next strand along the curve: out of the triangle of the label, and through the triangle behind
-/// its edge.
+/// The next strand along the curve: out of the triangle of the label, and through the triangle
+/// behind its edge.
 pub(crate) fn step(atlas: &Atlas, w: &Coords, q: Strand) -> Strand
     requires coordinates { AreCoordinatesIn atlas.now w.now }
     requires strand { IsStrand (triangulation atlas.now w.now.tri) w.now.numbers q }

@@ -11,7 +11,8 @@ pub returns : goal.returns
 returns c =
     let triples : List (List ℤ) = triangulation c.args.atlas.now c.args.w.now.tri in
     let sound : IsTriangulation triples =
-    subst IsTriangulation (c.tri-2.ensures.value ∙ ap (triangulation c.args.atlas.now) c.tri.ensures) c.tri-2.ensures.sound in
+    subst IsTriangulation (c.tri-2.ensures.value ∙ ap (triangulation c.args.atlas.now) c.tri.ensures)
+    c.tri-2.ensures.sound in
     let laws : DrawingLaws triples = c.drawing_laws.ensures triples sound in
     all_closed triples sound (c.surface_laws.ensures.triangles triples sound)
     (words_of (draw triples c.args.w.now.numbers))

@@ -22,7 +22,8 @@ all_drawn c =
     let full : c.loop-e.e ≡ length w =
     omega (arith, edges, c.loop-e-test.false, c.loop-e.auto.e-end, c.requires.coordinates.multicurve.one_per_edge) in
     c.loop-e.invariant.listed
-    ∙ ap (λ (z : List State). map (walk_along triples) (words_of (curves_among triples w z))) (before-all w c.loop-e.e full)
+    ∙ ap (λ (z : List State). map (walk_along triples) (words_of (curves_among triples w z))) (before-all w c.loop-e.e
+    full)
 
 pub returns-clause-words : goal.returns-clause-words
 returns-clause-words c =

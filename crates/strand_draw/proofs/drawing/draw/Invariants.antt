@@ -6,4 +6,5 @@ use Rattle.strand_draw.proofs.drawing.draw.Given as goal
 
 abbrev pub invariant-loop-e : goal.invariant-loop-e
 invariant-loop-e l =
-    AreDrawn (triangulation l.atlas l.w.tri) l.w.numbers (strands_before l.w.numbers (state_at (pos l.e) 0)) l.marks l.walks.items
+    AreDrawn (triangulation l.atlas l.w.tri) l.w.numbers (strands_before l.w.numbers (state_at (pos l.e) 0)) l.marks
+    l.walks.items

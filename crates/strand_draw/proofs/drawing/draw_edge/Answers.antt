@@ -12,7 +12,12 @@ returns c =
     let full : c.loop-place.place ≡ get_or w (edge_of c.args.x) 0 =
     omega (arith, c.loop-place-test.false, c.loop-place.auto.place-end, c.weight-place-end.ensures) in
     subst
-    (λ (z : List State). AreDrawn (triangulation c.args.atlas.now c.args.w.now.tri) w z c.loop-place.marks c.loop-place.walks.items)
+    (λ (z : List State). AreDrawn (triangulation c.args.atlas.now c.args.w.now.tri) w z c.loop-place.marks
+    c.loop-place.walks.items)
     (ap (λ (n : ℕ). strands_before w (state_at c.args.x n)) full
-    ∙ before-next w (edge_of c.args.x) (omega (arith, c.requires.label, c.requires.coordinates.multicurve.one_per_edge)))
+    ∙ before-next w (edge_of c.args.x) (omega (
+      arith,
+      c.requires.label,
+      c.requires.coordinates.multicurve.one_per_edge,
+    )))
     c.loop-place.invariant

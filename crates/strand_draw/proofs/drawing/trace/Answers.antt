@@ -12,7 +12,8 @@ loop-q-smaller c =
     let other : c.loop-q.at ≢ c.args.q =
     told_other c.loop-q.at c.args.q c.ne.result c.ne.ensures c.loop-q-test.true in
     let shorter : length c.loop-q.letters.items < length (curve_from triples c.args.w.now.numbers c.args.q) =
-    traced_shorter triples c.args.w.now.numbers c.step_laws.ensures c.requires.coordinates.multicurve c.args.q c.loop-q.at
+    traced_shorter triples c.args.w.now.numbers c.step_laws.ensures c.requires.coordinates.multicurve c.args.q
+    c.loop-q.at
     c.requires.strand c.loop-q.letters.items c.args.marks.now c.loop-q.marks c.loop-q.invariant.traced other in
     omega (arith, shorter, c.in_ok-push-2.ensures.len)
 
@@ -23,7 +24,8 @@ loop-q-preserved c = record {
   traced =
       let triples : List (List ℤ) = triangulation c.args.atlas.now c.args.w.now.tri in
       subst
-      (λ (letters : List ℤ). IsTraced triples c.args.w.now.numbers c.args.q c.step-at-in-loop-q.result letters c.args.marks.now
+      (λ (letters : List ℤ). IsTraced triples c.args.w.now.numbers c.args.q c.step-at-in-loop-q.result letters
+      c.args.marks.now
       c.mark-in-loop-q.new.self)
       (sym (c.in_ok-push-2.ensures.items ∙ ap (λ (p : State). c.loop-q.letters.items ++ (p.label ∷ [])) c.at.view_is))
       (traced_more triples c.args.w.now.numbers c.args.q c.loop-q.at c.step-at-in-loop-q.result c.loop-q.letters.items

@@ -15,5 +15,6 @@ returns-clause-marked c = λ run h. record {
       subst
       (λ (k : ℕ). Passed c.args.w.now.numbers (set c.args.self.now.drawn.items k true) (run ++ (c.args.q ∷ [])))
       (sym c.number-number.ensures.value)
-      (passed_more c.args.w.now.numbers c.args.self.now.drawn.items run c.args.q h.numbered.room c.requires.strand h.passed);
+      (passed_more c.args.w.now.numbers c.args.self.now.drawn.items run c.args.q h.numbered.room c.requires.strand
+      h.passed);
 }
