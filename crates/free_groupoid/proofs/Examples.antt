@@ -1,0 +1,59 @@
+-- Worked examples: the test walks of the once-punctured torus, the four-punctured sphere, and two spheres at once.
+use Rattle.std.specs.Prelude.{◌≡◌, ℕ, ℤ, pos, negsuc, List, [], ◌∷◌, refl, take, length}
+use Rattle.ideal_tri.specs.Words.{cyclic_reduce, strip}
+use Rattle.free_groupoid.specs.TestWalks.{forest, root_of, tree_walk, is_tree_edge, outer_edges, test_walks}
+
+abbrev torus : List (List ℤ)
+torus = (pos 0 ∷ pos 1 ∷ pos 2 ∷ []) ∷ (negsuc 0 ∷ negsuc 1 ∷ negsuc 2 ∷ []) ∷ []
+
+torus_edges : outer_edges torus ≡ 1 ∷ 2 ∷ []
+unfolding outer_edges is_tree_edge forest
+torus_edges = refl
+
+torus_walks : test_walks torus ≡ (pos 1 ∷ negsuc 0 ∷ []) ∷ (pos 2 ∷ negsuc 0 ∷ []) ∷ (pos 1 ∷ negsuc 0 ∷ pos 2 ∷ negsuc 0 ∷ []) ∷ []
+unfolding test_walks outer_edges is_tree_edge tree_walk root_of forest cyclic_reduce strip
+torus_walks = refl
+
+-- the four-punctured sphere
+abbrev sphere : List (List ℤ)
+sphere =
+    (pos 0 ∷ pos 3 ∷ negsuc 1 ∷ [])
+    ∷ (pos 2 ∷ negsuc 4 ∷ negsuc 0 ∷ [])
+    ∷ (pos 1 ∷ pos 5 ∷ negsuc 2 ∷ [])
+    ∷ (pos 4 ∷ negsuc 5 ∷ negsuc 3 ∷ [])
+    ∷ []
+
+sphere_edges : outer_edges sphere ≡ 2 ∷ 4 ∷ 5 ∷ []
+unfolding outer_edges is_tree_edge forest
+sphere_edges = refl
+
+sphere_walks : test_walks sphere
+    ≡ (pos 0 ∷ pos 2 ∷ pos 1 ∷ [])
+    ∷ (pos 3 ∷ pos 4 ∷ negsuc 0 ∷ [])
+    ∷ (negsuc 1 ∷ pos 5 ∷ negsuc 3 ∷ [])
+    ∷ (pos 2 ∷ pos 1 ∷ pos 3 ∷ pos 4 ∷ [])
+    ∷ (pos 0 ∷ pos 2 ∷ pos 5 ∷ negsuc 3 ∷ [])
+    ∷ (pos 4 ∷ negsuc 0 ∷ negsuc 1 ∷ pos 5 ∷ [])
+    ∷ []
+unfolding test_walks outer_edges is_tree_edge tree_walk root_of forest cyclic_reduce strip
+sphere_walks = refl
+
+-- two three-punctured spheres: no product of loops of different ones
+abbrev pair : List (List ℤ)
+pair =
+    (pos 0 ∷ pos 1 ∷ pos 2 ∷ [])
+    ∷ (negsuc 0 ∷ negsuc 2 ∷ negsuc 1 ∷ [])
+    ∷ (pos 3 ∷ pos 4 ∷ pos 5 ∷ [])
+    ∷ (negsuc 3 ∷ negsuc 5 ∷ negsuc 4 ∷ [])
+    ∷ []
+
+pair_walks : test_walks pair
+    ≡ (pos 1 ∷ negsuc 0 ∷ [])
+    ∷ (pos 2 ∷ negsuc 0 ∷ [])
+    ∷ (pos 4 ∷ negsuc 3 ∷ [])
+    ∷ (pos 5 ∷ negsuc 3 ∷ [])
+    ∷ (pos 1 ∷ negsuc 0 ∷ pos 2 ∷ negsuc 0 ∷ [])
+    ∷ (pos 4 ∷ negsuc 3 ∷ pos 5 ∷ negsuc 3 ∷ [])
+    ∷ []
+unfolding test_walks outer_edges is_tree_edge tree_walk root_of forest cyclic_reduce strip
+pair_walks = refl

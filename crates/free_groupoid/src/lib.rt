@@ -1,0 +1,6 @@
+//! Maps of walks on the dual graph of a triangulation, and the test whether a map is inner.
+#![tactic(auto)]
+
+mod laws;
+
+pub use laws::inner_laws;
