@@ -1,1 +1,4 @@
 pub mod Examples
+pub mod Letters
+pub mod Names
+pub mod Carrying
