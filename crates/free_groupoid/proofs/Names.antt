@@ -47,6 +47,36 @@ abbrev pub +4 : ℤ
 abbrev pub -4 : ℤ
 -4 = negsuc 4
 
+abbrev pub +5 : ℤ
++5 = pos 5
+
+abbrev pub -5 : ℤ
+-5 = negsuc 5
+
+abbrev pub +6 : ℤ
++6 = pos 6
+
+abbrev pub -6 : ℤ
+-6 = negsuc 6
+
+abbrev pub +7 : ℤ
++7 = pos 7
+
+abbrev pub -7 : ℤ
+-7 = negsuc 7
+
+abbrev pub +8 : ℤ
++8 = pos 8
+
+abbrev pub -8 : ℤ
+-8 = negsuc 8
+
+abbrev pub +9 : ℤ
++9 = pos 9
+
+abbrev pub -9 : ℤ
+-9 = negsuc 9
+
 -- the words of a list by their numbers, and their inverses
 abbrev pub named : List (List ℤ) → ℤ → List ℤ
 named words (pos n) = get_or words n []

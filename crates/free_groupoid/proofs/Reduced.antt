@@ -1,0 +1,72 @@
+-- Reduced words: their parts, how two are glued, and words whose letters all have a property.
+use Rattle.std.proofs.Common.{ℕ, ℤ, List, [], ◌∷◌, ◌++◌, ◌≡◌, ◌≢◌, refl, sym, ◌∙◌, ap, subst, append_assoc}
+use Rattle.std.specs.List.{All, flat_map}
+use Rattle.std.proofs.lemmas.List.Elements.{All-nil, All-cons, All-head, All-tail, All-append}
+use Rattle.ideal_tri.specs.Labels.{inverse, edge_of}
+use Rattle.ideal_tri.specs.Words.{inverse_word, IsReduced, reduce, Deletes, DeletesAll, pair, done, more}
+use Rattle.ideal_tri.specs.WordLaws.{ReductionLaws}
+use Rattle.free_groupoid.proofs.Letters.{edge_of-inverse}
+
+-- ---- parts
+
+pub IsReduced-tail : (x : ℤ) (w : List ℤ) → IsReduced (x ∷ w) → IsReduced w
+IsReduced-tail x [] h = tt
+IsReduced-tail x (y ∷ w) h = h.1
+
+pub IsReduced-front : (u v : List ℤ) → IsReduced (u ++ v) → IsReduced u
+IsReduced-front [] v h = tt
+IsReduced-front (x ∷ []) v h = tt
+IsReduced-front (x ∷ (y ∷ u)) v h = (h.0, IsReduced-front (y ∷ u) v h.1)
+
+pub IsReduced-back : (u v : List ℤ) → IsReduced (u ++ v) → IsReduced v
+IsReduced-back [] v h = h
+IsReduced-back (x ∷ u) v h = IsReduced-back u v (IsReduced-tail x (u ++ v) h)
+
+-- two reduced words joined at a letter x, the last of the first and the first of the second
+IsReduced-glue : (u : List ℤ) (x : ℤ) (v : List ℤ) → IsReduced (u ++ (x ∷ [])) → IsReduced (x ∷ v) → IsReduced (u ++ (x ∷ v))
+IsReduced-glue [] x v h k = k
+IsReduced-glue (y ∷ []) x v h k = (h.0, k)
+IsReduced-glue (y ∷ (z ∷ u)) x v h k = (h.0, IsReduced-glue (z ∷ u) x v h.1 k)
+
+-- ---- neighbours of different edges
+
+pub apart : (x y : ℤ) → edge_of x ≢ edge_of y → x ≢ inverse y
+apart x y n e = n (ap edge_of e ∙ edge_of-inverse y)
+
+-- letters of different edges may stand side by side
+pub IsReduced-join : (u : List ℤ) (x y : ℤ) (v : List ℤ) → edge_of y ≢ edge_of x → IsReduced (u ++ (x ∷ [])) → IsReduced (y ∷ v)
+    → IsReduced (u ++ (x ∷ (y ∷ v)))
+IsReduced-join u x y v n h k = IsReduced-glue u x (y ∷ v) h (apart y x n, k)
+
+-- ---- the way back
+
+pub IsReduced-inverse_word : ReductionLaws → (w : List ℤ) → IsReduced w → IsReduced (inverse_word w)
+IsReduced-inverse_word r w h = subst IsReduced (r.inverse w ∙ ap inverse_word (r.fixed w h)) (r.is_reduced (inverse_word w))
+
+-- ---- letters
+
+module _ (P : ℤ → Type 0) where
+  pub All-parts : (u v : List ℤ) → All P (u ++ v) → All P u × All P v
+  All-parts [] v h = (All-nil P, h)
+  All-parts (x ∷ u) v h =
+      let rest = All-parts u v (All-tail P x (u ++ v) h) in
+      (All-cons P x u (All-head P x (u ++ v) h) rest.0, rest.1)
+
+  deletion-keeps : (v w : List ℤ) → Deletes v w → All P v → All P w
+  deletion-keeps v w (pair u x t) h =
+      let parts = All-parts u (x ∷ (inverse x ∷ t)) h in
+      All-append P u t parts.0 (All-tail P (inverse x) t (All-tail P x (inverse x ∷ t) parts.1))
+
+  deletions-keep : (v w : List ℤ) → DeletesAll v w → All P v → All P w
+  deletions-keep v w (done t) h = h
+  deletions-keep v w (more {u = a} {v = b} {w = c} d rest) h = deletions-keep b c rest (deletion-keeps a b d h)
+
+  -- what holds of each letter of a word holds of each letter of its reduction
+  pub reduce-keeps : ReductionLaws → (w : List ℤ) → All P w → All P (reduce w)
+  reduce-keeps r w h = deletions-keep w (reduce w) (r.reached w) h
+
+  pub inverse_word-keeps : ((x : ℤ) → P x → P (inverse x)) → (w : List ℤ) → All P w → All P (inverse_word w)
+  inverse_word-keeps both [] h = h
+  inverse_word-keeps both (x ∷ w) h =
+      All-append P (inverse_word w) (inverse x ∷ []) (inverse_word-keeps both w (All-tail P x w h))
+      (All-cons P (inverse x) [] (both x (All-head P x w h)) (All-nil P))
