@@ -6,3 +6,5 @@ pub mod Reduced
 pub mod Powers
 pub mod Splits
 pub mod PowerSplit
+pub mod Shared
+pub mod Centraliser
