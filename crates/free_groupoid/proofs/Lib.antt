@@ -8,3 +8,4 @@ pub mod Splits
 pub mod PowerSplit
 pub mod Shared
 pub mod Centraliser
+pub mod Halves
