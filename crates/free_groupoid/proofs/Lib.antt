@@ -9,3 +9,4 @@ pub mod PowerSplit
 pub mod Shared
 pub mod Centraliser
 pub mod Halves
+pub mod Sides
