@@ -10,3 +10,5 @@ pub mod Shared
 pub mod Centraliser
 pub mod Halves
 pub mod Sides
+pub mod Members
+pub mod Nodes

@@ -1,0 +1,83 @@
+-- Elements of lists: of a list with one more in front, of a filtered list, of a range, and those that pass a test.
+use Rattle.std.proofs.Common.{ℕ, zero, suc, Bool, true, false, List, [], ◌∷◌, ◌++◌, ◌≡◌, ◌≢◌, ◌<◌, ◌≤◌, ◌+◌, ◌||◌, ◌⊎◌, inl, inr, refl, sym, ◌∙◌, ap, subst, arith, length, cond, get_or, ◌-◌}
+use Rattle.std.proofs.lemmas.List.FromFn.{length-range_with_len, get_or-range_with_len}
+use Rattle.std.specs.List.{Contains, filter, list_any, range_with_len}
+use Rattle.std.proofs.lemmas.Bool.{or_cases, or_left, or_right, cases_Bool, cond-true, cond-false, both_ways}
+
+-- ---- one more in front
+
+pub member_here : {X : Type 0} → (x : X) (xs : List X) → Contains (x ∷ xs) x
+member_here x xs = (0, omega arith, refl)
+
+pub member_later : {X : Type 0} → (x : X) (xs : List X) (y : X) → Contains xs y → Contains (x ∷ xs) y
+member_later x xs y (k, below, e) = (suc k, omega arith, e)
+
+pub member_cases : {X : Type 0} → (x : X) (xs : List X) (y : X) → Contains (x ∷ xs) y → (x ≡ y) ⊎ Contains xs y
+member_cases x xs y (zero, below, e) = inl e
+member_cases x xs y (suc k, below, e) = inr (k, omega arith, e)
+
+pub no_member : {X : Type 0} → (y : X) → Contains [] y → ⊥
+no_member y (k, below, e) = omega arith
+
+-- ---- tests
+
+pub any_member : {X : Type 0} → (p : X → Bool) (xs : List X) → list_any p xs ≡ true → (x : X) × Contains xs x × (p x ≡ true)
+any_member p [] h = absurd (cc)
+any_member p (x ∷ xs) h =
+    elim (or_cases (p x) (list_any p xs) h) [
+      | inl here ↦ (x, member_here x xs, here)
+      | inr later ↦ (let (y, in_xs, passes) = any_member p xs later in (y, member_later x xs y in_xs, passes))
+    ]
+
+pub member_any : {X : Type 0} → (p : X → Bool) (xs : List X) (x : X) → Contains xs x → p x ≡ true → list_any p xs ≡ true
+member_any p [] x h passes = absurd (no_member x h)
+member_any p (y ∷ xs) x h passes =
+    elim (member_cases y xs x h) [
+      | inl e ↦ or_left (p y) (list_any p xs) (ap p e ∙ passes)
+      | inr later ↦ or_right (p y) (list_any p xs) (member_any p xs x later passes)
+    ]
+
+-- ---- filters
+
+pub member_filter : {X : Type 0} → (p : X → Bool) (xs : List X) (x : X) → Contains xs x → p x ≡ true → Contains (filter p xs) x
+member_filter p [] x h passes = absurd (no_member x h)
+member_filter p (y ∷ xs) x h passes =
+    elim (member_cases y xs x h) [
+      | inl e ↦
+          subst (λ (zs : List _). Contains zs x) (sym (cond-true (p y) (y ∷ filter p xs) (filter p xs) (ap p e ∙ passes)))
+          (subst (Contains (y ∷ filter p xs)) e (member_here y (filter p xs)))
+      | inr later ↦
+          (let rest : Contains (filter p xs) x = member_filter p xs x later passes in
+          elim (cases_Bool (p y)) [
+            | inl kept ↦
+                subst (λ (zs : List _). Contains zs x) (sym (cond-true (p y) (y ∷ filter p xs) (filter p xs) kept)) (member_later y (filter p xs) x rest)
+            | inr dropped ↦ subst (λ (zs : List _). Contains zs x) (sym (cond-false (p y) (y ∷ filter p xs) (filter p xs) dropped)) rest
+          ])
+    ]
+
+pub filter_member : {X : Type 0} → (p : X → Bool) (xs : List X) (x : X) → Contains (filter p xs) x → Contains xs x × (p x ≡ true)
+filter_member p [] x h = absurd (no_member x h)
+filter_member p (y ∷ xs) x h =
+    elim (cases_Bool (p y)) [
+      | inl kept ↦
+          elim (member_cases y (filter p xs) x (subst (λ (zs : List _). Contains zs x) (cond-true (p y) (y ∷ filter p xs) (filter p xs) kept) h)) [
+            | inl e ↦ (subst (Contains (y ∷ xs)) e (member_here y xs), sym (ap p e) ∙ kept)
+            | inr later ↦ (let rest = filter_member p xs x later in (member_later y xs x rest.0, rest.1))
+          ]
+      | inr dropped ↦
+          (let rest = filter_member p xs x (subst (λ (zs : List _). Contains zs x) (cond-false (p y) (y ∷ filter p xs) (filter p xs) dropped) h) in
+          (member_later y xs x rest.0, rest.1))
+    ]
+
+-- ---- ranges
+
+pub member_range : (a n k : ℕ) → a ≤ k → k < a + n → Contains (range_with_len a n) k
+member_range a n k low high =
+    let below : k - a < n = omega arith in
+    (k - a, omega (arith, length-range_with_len a n), get_or-range_with_len a n (k - a) k below ∙ omega arith)
+
+pub range_member : (a n k : ℕ) → Contains (range_with_len a n) k → (a ≤ k) × (k < a + n)
+range_member a n k (i, below, e) =
+    let within : i < n = omega (arith, length-range_with_len a n) in
+    let at : k ≡ a + i = sym e ∙ get_or-range_with_len a n i k within in
+    (omega arith, omega arith)
