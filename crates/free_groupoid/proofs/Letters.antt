@@ -1,5 +1,8 @@
 -- Letters, their inverses, and the reductions of words that are put together.
-use Rattle.std.proofs.Common.{ℤ, pos, negsuc, List, [], ◌∷◌, ◌++◌, ◌≡◌, ◌⊎◌, inl, inr, refl, sym, ◌∙◌, ap, append_assoc}
+use Rattle.std.proofs.Common.{ℤ, pos, negsuc, List, [], ◌∷◌, ◌++◌, ◌≡◌, ◌≢◌, ◌⊎◌, inl, inr, refl, sym, ◌∙◌, ap, append_assoc}
+use Rattle.std.specs.Ordering.{int_eq}
+use Rattle.std.proofs.lemmas.Bool.{cases_Bool}
+use Rattle.std.proofs.lemmas.Bool.Decides.{Decides-int_eq, not_from_Decides}
 use Rattle.std.proofs.lemmas.List.{append-nil}
 use Rattle.ideal_tri.specs.Labels.{inverse, edge_of}
 use Rattle.ideal_tri.specs.Words.{inverse_word, reduce}
@@ -21,6 +24,13 @@ two_labels (pos m) (pos n) e = inl (ap pos e)
 two_labels (pos m) (negsuc n) e = inr (ap pos e)
 two_labels (negsuc m) (pos n) e = inr (ap negsuc e)
 two_labels (negsuc m) (negsuc n) e = inl (ap negsuc e)
+
+pub same_or_not : (x y : ℤ) → (x ≡ y) ⊎ (x ≢ y)
+same_or_not x y =
+    elim (cases_Bool (int_eq x y)) [
+      | inl e ↦ inl ((Decides-int_eq x y).0 e)
+      | inr e ↦ inr (not_from_Decides _ (Decides-int_eq x y) e)
+    ]
 
 -- ---- the way back
 

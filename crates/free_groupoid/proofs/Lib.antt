@@ -12,3 +12,5 @@ pub mod Halves
 pub mod Sides
 pub mod Members
 pub mod Nodes
+pub mod Forests
+pub mod Sprouts

@@ -1,13 +1,17 @@
 -- Each triangle of a triangulation has sides.
-use Rattle.std.proofs.Common.{ℕ, ℤ, pos, zero, suc, Bool, true, false, List, [], ◌∷◌, ◌++◌, ◌≡◌, ◌<◌, ◌≤◌, ◌+◌, ◌||◌, inl, inr, refl, sym, ◌∙◌, ap, subst, arith, length, get_or, cond, nat_lt}
+use Rattle.std.proofs.Common.{ℕ, ℤ, pos, negsuc, zero, suc, Bool, true, false, List, [], ◌∷◌, ◌++◌, ◌≡◌, ◌<◌, ◌≤◌, ◌+◌, ◌||◌, inl, inr, refl, sym, ◌∙◌, ap, subst, arith, length, get_or, cond, nat_lt}
 use Rattle.std.specs.List.{All, count_by, list_any, flat_map}
 use Rattle.std.specs.Ordering.{int_eq}
 use Rattle.std.proofs.lemmas.Bool.{or_cases, or_left, ltb-true, cases_Bool, cond-true, cond-false}
 use Rattle.std.proofs.lemmas.Bool.Decides.{Decides-int_eq}
 use Rattle.std.proofs.lemmas.List.Elements.{All-get_or}
 use Rattle.std.proofs.lemmas.List.Sums.{sum_by-append, sum_by-cons}
-use Rattle.ideal_tri.specs.Labels.{edge_of}
+use Rattle.ideal_tri.specs.Labels.{inverse, edge_of}
 use Rattle.ideal_tri.specs.Triangulations.{IsTriangulation, IsLabel, edge_count, has_side, labels_of, triangle_of}
+
+pub inverse_label : (triples : List (List ℤ)) (x : ℤ) → IsLabel triples x → IsLabel triples (inverse x)
+inverse_label triples (pos n) h = h
+inverse_label triples (negsuc n) h = h
 
 -- how often x stands in a list
 abbrev times : ℤ → List ℤ → ℕ
