@@ -14,3 +14,4 @@ pub mod Members
 pub mod Nodes
 pub mod Forests
 pub mod Sprouts
+pub mod Additions

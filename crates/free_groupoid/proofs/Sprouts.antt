@@ -110,7 +110,7 @@ module _ (triples : List (List ℤ)) (t : TriangleLaws triples) (nodes : List No
       go (inr i) (inl j) = fresh_other r b k (sym j ∙ sym e ∙ i.0)
       go (inr i) (inr j) = ne (i.1 ∙ sym j.1)
 
-  still_three : (r : ℕ) → AreFree triples nodes r → AreFree triples (sprouted triples nodes n x) r
+  pub still_three : (r : ℕ) → AreFree triples nodes r → AreFree triples (sprouted triples nodes n x) r
   still_three r h = record {
     a = (replace r h.a h.free_a).label;
     b = (replace r h.b h.free_b).label;
