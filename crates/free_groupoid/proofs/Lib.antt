@@ -15,3 +15,4 @@ pub mod Nodes
 pub mod Forests
 pub mod Sprouts
 pub mod Additions
+pub mod SidesInOrder

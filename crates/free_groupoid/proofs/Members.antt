@@ -1,7 +1,8 @@
 -- Elements of lists: of a list with one more in front, of a filtered list, of a range, and those that pass a test.
 use Rattle.std.proofs.Common.{ℕ, zero, suc, Bool, true, false, List, [], ◌∷◌, ◌++◌, ◌≡◌, ◌≢◌, ◌<◌, ◌≤◌, ◌+◌, ◌||◌, ◌⊎◌, inl, inr, refl, sym, ◌∙◌, ap, subst, arith, length, cond, get_or, ◌-◌}
 use Rattle.std.proofs.lemmas.List.FromFn.{length-range_with_len, get_or-range_with_len}
-use Rattle.std.specs.List.{Contains, filter, list_any, range_with_len}
+use Rattle.std.specs.List.{Contains, filter, flat_map, list_any, range_with_len}
+use Rattle.std.proofs.lemmas.List.Elements.{Contains-append_left, Contains-append_right, Contains-append_cases}
 use Rattle.std.proofs.lemmas.Bool.{or_cases, or_left, or_right, cases_Bool, cond-true, cond-false, both_ways}
 
 -- ---- one more in front
@@ -81,3 +82,21 @@ range_member a n k (i, below, e) =
     let within : i < n = omega (arith, length-range_with_len a n) in
     let at : k ≡ a + i = sym e ∙ get_or-range_with_len a n i k within in
     (omega arith, omega arith)
+
+-- ---- lists joined end to end
+
+pub member_flat_map : {X Y : Type 0} → (f : X → List Y) (xs : List X) (x : X) (y : Y) → Contains xs x → Contains (f x) y → Contains (flat_map f xs) y
+member_flat_map f [] x y h k = absurd (no_member x h)
+member_flat_map f (z ∷ xs) x y h k =
+    elim (member_cases z xs x h) [
+      | inl e ↦ Contains-append_left (f z) (flat_map f xs) y (subst (λ v. Contains (f v) y) (sym e) k)
+      | inr later ↦ Contains-append_right (f z) (flat_map f xs) y (member_flat_map f xs x y later k)
+    ]
+
+pub flat_map_member : {X Y : Type 0} → (f : X → List Y) (xs : List X) (y : Y) → Contains (flat_map f xs) y → (x : X) × Contains xs x × Contains (f x) y
+flat_map_member f [] y h = absurd (no_member y h)
+flat_map_member f (x ∷ xs) y h =
+    elim (Contains-append_cases (f x) (flat_map f xs) y h) [
+      | inl here ↦ (x, member_here x xs, here)
+      | inr later ↦ (let (z, in_xs, at) = flat_map_member f xs y later in (z, member_later x xs z in_xs, at))
+    ]
