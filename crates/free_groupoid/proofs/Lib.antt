@@ -16,3 +16,4 @@ pub mod Forests
 pub mod Sprouts
 pub mod Additions
 pub mod SidesInOrder
+pub mod Turns
