@@ -17,3 +17,4 @@ pub mod Sprouts
 pub mod Additions
 pub mod SidesInOrder
 pub mod Turns
+pub mod Growing
