@@ -113,7 +113,7 @@ module _ (triples : List (List ℤ)) (t : TriangleLaws triples) (w : WalkLaws tr
           subst (IsClosed triples (done ++ todo)) (sym e) (record { beyond = λ x label at. beyond x (g.tried x label at) })
       go m (inr c) = c
 
-  turn : (sides : List ℤ) (todo : List Node) → IsTurning triples r bound n done todo sides
+  pub turn : (sides : List ℤ) (todo : List Node) → IsTurning triples r bound n done todo sides
       → IsGrowing triples r bound done (sprout triples n sides done todo)
   turn [] todo g = turned todo g
   turn (x ∷ sides) todo g =

@@ -18,3 +18,4 @@ pub mod Additions
 pub mod SidesInOrder
 pub mod Turns
 pub mod Growing
+pub mod Planting
