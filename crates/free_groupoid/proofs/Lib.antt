@@ -19,3 +19,4 @@ pub mod SidesInOrder
 pub mod Turns
 pub mod Growing
 pub mod Planting
+pub mod ForestLaws
