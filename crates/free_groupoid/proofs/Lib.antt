@@ -19,4 +19,6 @@ pub mod SidesInOrder
 pub mod Turns
 pub mod Growing
 pub mod Planting
+pub mod ForestNodes
 pub mod ForestLaws
+pub mod Collapse
