@@ -22,3 +22,4 @@ pub mod Planting
 pub mod ForestNodes
 pub mod ForestLaws
 pub mod Collapse
+pub mod Loops
