@@ -23,3 +23,4 @@ pub mod ForestNodes
 pub mod ForestLaws
 pub mod Collapse
 pub mod Loops
+pub mod Telescope

@@ -105,7 +105,7 @@ module _ (triples : List (List ℤ)) (l : Laws triples) where
   -- ---- a walk from its outer letters
 
   -- back along the tree, the loop of the letter if it is outer, and along the tree
-  telescope_letter : (r : ℕ) (x : ℤ) → IsLabel triples x → root_of triples (triangle_of triples x) ≡ r
+  pub telescope_letter : (r : ℕ) (x : ℤ) → IsLabel triples x → root_of triples (triangle_of triples x) ≡ r
       → reduce (x ∷ [])
           ≡ reduce (inverse_word (tree_walk triples (triangle_of triples x))
           ++ (flat_map (loop triples) (collapse triples r x) ++ tree_walk triples (triangle_of triples (inverse x))))
