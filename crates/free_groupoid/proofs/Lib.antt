@@ -24,3 +24,4 @@ pub mod ForestLaws
 pub mod Collapse
 pub mod Loops
 pub mod Telescope
+pub mod Relations
