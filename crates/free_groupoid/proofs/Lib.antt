@@ -25,3 +25,4 @@ pub mod Collapse
 pub mod Loops
 pub mod Telescope
 pub mod Relations
+pub mod InnerMaps

@@ -57,15 +57,12 @@ pub record InnerMapLaws : Type 0 where
       (λ t. g_triangles (f_triangles (back_triangles t)))
       (λ t. flat_map g (paths (back_triangles t)))
   pub along : (triples : List (List ℤ)) (f : ℤ → List ℤ) (triangles : ℕ → ℕ)
-      (paths : ℕ → List ℤ) (s t : ℕ) (w : List ℤ) → IsTriangulation triples
-      → IsInner triples f triangles paths → IsWalk triples s w t
-      → reduce (paths s ++ flat_map f w) ≡ reduce (w ++ paths t)
+      (paths : ℕ → List ℤ) (s t : ℕ) (w : List ℤ) → IsInner triples f triangles paths
+      → IsWalk triples s w t → reduce (paths s ++ flat_map f w) ≡ reduce (w ++ paths t)
   pub closed : (triples : List (List ℤ)) (f : ℤ → List ℤ) (triangles : ℕ → ℕ)
-      (paths : ℕ → List ℤ) (t : ℕ) (w : List ℤ) → IsTriangulation triples
-      → IsInner triples f triangles paths → IsWalk triples t w t
-      → IsRotation (cyclic_reduce (flat_map f w)) (cyclic_reduce w)
+      (paths : ℕ → List ℤ) (t : ℕ) (w : List ℤ) → IsInner triples f triangles paths
+      → IsWalk triples t w t → IsRotation (cyclic_reduce (flat_map f w)) (cyclic_reduce w)
   pub curves : (triples : List (List ℤ)) (f : ℤ → List ℤ) (triangles : ℕ → ℕ)
-      (paths : ℕ → List ℤ) (words : List (List ℤ)) → IsTriangulation triples
-      → IsInner triples f triangles paths
+      (paths : ℕ → List ℤ) (words : List (List ℤ)) → IsInner triples f triangles paths
       → All (λ w. (t : ℕ) × IsWalk triples t w t × IsCyclicallyReduced w) words
       → IsFixed f words
