@@ -26,3 +26,5 @@ pub mod Loops
 pub mod Telescope
 pub mod Relations
 pub mod InnerMaps
+pub mod OuterEdges
+pub mod TestLists
