@@ -28,3 +28,4 @@ pub mod Relations
 pub mod InnerMaps
 pub mod OuterEdges
 pub mod TestLists
+pub mod ClosedWords
