@@ -29,3 +29,4 @@ pub mod InnerMaps
 pub mod OuterEdges
 pub mod TestLists
 pub mod ClosedWords
+pub mod RootPaths
