@@ -103,3 +103,15 @@ pub alike-kept : (c : CyclicLaws) (f : ℤ → List ℤ) (w : List ℤ) → AreA
 alike-kept c f w alike =
     rotation_back (cyclic_reduce w) (cyclic_reduce (flat_map f (cyclic_reduce w)))
     (subst (λ (z : List ℤ). IsRotation z (cyclic_reduce (flat_map f (cyclic_reduce w)))) (kept_word c w) alike)
+
+module _ (r : ReductionLaws) (s : SubstitutionLaws) (c : CyclicLaws) where
+  -- a cyclic reduction is kept exactly where some word carries the closed word to its image
+  pub kept-carries : (f : ℤ → List ℤ) (w : List ℤ) → IsOdd f → IsKept f (cyclic_reduce w) → (q : List ℤ) × Carries q w (flat_map f w)
+  kept-carries f w odd kept =
+      let (q, carries) = alike-carries r s c identity f w (λ x. refl) odd (kept-alike c f w kept) in
+      (q, subst (λ (z : List ℤ). Carries q z (flat_map f w)) (flat_map-identity w) carries)
+
+  pub carries-kept : (f : ℤ → List ℤ) (q w : List ℤ) → IsOdd f → Carries q w (flat_map f w) → IsKept f (cyclic_reduce w)
+  carries-kept f q w odd carries =
+      alike-kept c f w
+      (carries-alike r s c identity f q w (λ x. refl) odd (subst (λ (z : List ℤ). Carries q z (flat_map f w)) (sym (flat_map-identity w)) carries))

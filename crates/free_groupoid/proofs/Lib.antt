@@ -30,3 +30,4 @@ pub mod OuterEdges
 pub mod TestLists
 pub mod ClosedWords
 pub mod RootPaths
+pub mod Conjugators
