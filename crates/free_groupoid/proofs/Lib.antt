@@ -31,3 +31,4 @@ pub mod TestLists
 pub mod ClosedWords
 pub mod RootPaths
 pub mod Conjugators
+pub mod RootWalks
