@@ -32,3 +32,5 @@ pub mod ClosedWords
 pub mod RootPaths
 pub mod Conjugators
 pub mod RootWalks
+pub mod ComputedPaths
+pub mod InnerTest

@@ -29,7 +29,7 @@ use Rattle.free_groupoid.proofs.RootPaths.{CarriesLoops, carries_loops}
 use Rattle.free_groupoid.proofs.Conjugators.{letter_carried, shared_serves}
 
 -- the inverse of an outer label is one
-outer_back : (triples : List (List ℤ)) (l : Laws triples) (r : ℕ) (x : ℤ) → IsOuter triples r x → IsOuter triples r (inverse x)
+pub outer_back : (triples : List (List ℤ)) (l : Laws triples) (r : ℕ) (x : ℤ) → IsOuter triples r x → IsOuter triples r (inverse x)
 outer_back triples l r x h = record {
   label = inverse_label triples x h.label;
   outside = ap (is_tree_edge triples) (edge_of-inverse x) ∙ h.outside;
