@@ -8,8 +8,9 @@ use Rattle.ideal_tri.specs.Triangulations.{IsWalk, IsTriangulation, triangle_of}
 use Rattle.tri_atlas.specs.Maps.{IsMap}
 use Rattle.free_groupoid.specs.TestWalks.{root_of, tree_walk, loop, outer_edges, edges_at, root_of_edge, test_walks}
 use Rattle.free_groupoid.specs.Inner.{IsInner, IsKept}
-use Rattle.free_groupoid.specs.inside.InnerPaths.{collapse, collapsed_image, second_half, shared, conjugator, root_path, inner_path}
-use Rattle.free_groupoid.proofs.Letters.{reduce-reduce}
+use Rattle.free_groupoid.specs.InnerLaws.{InnerTestLaws}
+use Rattle.free_groupoid.specs.inside.InnerPaths.{collapse}
+use Rattle.free_groupoid.proofs.Letters.{reduce-inside}
 use Rattle.free_groupoid.proofs.Names.{+0, -0, +1, -1, +2, +3, by_fact}
 use Rattle.free_groupoid.proofs.Members.{member_here, member_later, member_cases, no_member}
 use Rattle.free_groupoid.proofs.Reduced.{reduce-keeps}
@@ -23,7 +24,8 @@ use Rattle.free_groupoid.proofs.Telescope.{walk_component, collapse_injective}
 use Rattle.free_groupoid.proofs.InnerMaps.{inner_along, inner_carries}
 use Rattle.free_groupoid.proofs.OuterEdges.{Rise, edge_outer, edge_at_outer, edges_rise}
 use Rattle.free_groupoid.proofs.TestLists.{each_test}
-use Rattle.free_groupoid.proofs.ClosedWords.{loop_collapsed}
+use Rattle.free_groupoid.proofs.ClosedWords.{loop_collapsed, test_loops}
+use Rattle.free_groupoid.proofs.ComputedPaths.{own_root, root_below, kept_inner}
 use Rattle.free_groupoid.proofs.RootPaths.{CarriesLoops, inner_from_roots}
 use Rattle.free_groupoid.proofs.Conjugators.{letter_carried, shared_serves}
 use Rattle.free_groupoid.proofs.RootWalks.{outer_back, root_stays, spread_carries}
@@ -46,3 +48,70 @@ module _ (triples : List (List ℤ)) (l : Laws triples) (f : ℤ → List ℤ) (
       loop_at : (e : ℕ) → Contains (outer_edges triples) e → IsWalk triples (root_of_edge triples e) (loop triples (pos e)) (root_of_edge triples e)
       loop_at e k = loop_closed triples l (pos e) (root_of_edge triples e) (edge_outer triples e k).label refl
 
+
+-- ---- one list of reduced walks
+
+module _ (triples : List (List ℤ)) (l : Laws triples) (f : ℤ → List ℤ) (f0 : ℕ → ℕ) (p q : ℕ → List ℤ)
+    (h : IsInner triples f f0 p) (k : IsInner triples f f0 q) where
+  -- from the one walk of a root back along the other
+  abbrev around : ℕ → List ℤ
+  around r = p r ++ inverse_word (q r)
+
+  around_closed : (r : ℕ) → r < length triples → IsWalk triples r (around r) r
+  around_closed r below = l.walks.join r (f0 r) r (p r) (inverse_word (q r)) (h.walks r below) (l.walks.back r (f0 r) (q r) (k.walks r below))
+
+  -- it commutes with each closed walk
+  around_commutes : (r : ℕ) (w : List ℤ) → IsWalk triples r w r → Carries (around r) w w
+  around_commutes r w walk =
+      by_fact l.reduction l.substitution names (+2 ∷ +0 ∷ -1 ∷ []) (+0 ∷ +3 ∷ -1 ∷ []) [] (+2 ∷ +0 ∷ []) (+0 ∷ +3 ∷ []) (-1 ∷ []) refl
+      (sym (inner_along l.reduction l.substitution triples f f0 p r r w h walk)) refl
+      ∙ by_fact l.reduction l.substitution names (+0 ∷ +3 ∷ -1 ∷ []) (+0 ∷ -1 ∷ +2 ∷ []) (+0 ∷ -1 ∷ []) (+1 ∷ +3 ∷ []) (+2 ∷ +1 ∷ []) (-1 ∷ []) refl
+      (inner_along l.reduction l.substitution triples f f0 q r r w k walk) refl
+      ∙ ap reduce (sym (append_assoc (p r) (inverse_word (q r)) w))
+    where
+      names : List (List ℤ)
+      names = p r ∷ q r ∷ w ∷ flat_map f w ∷ []
+
+  -- collapsed, it commutes with the letters of outer edges
+  around_letter : (r e : ℕ) → IsOuter triples r (pos e) → Carries (flat_map (collapse triples r) (around r)) (pos e ∷ []) (pos e ∷ [])
+  around_letter r e out =
+      subst (λ (z : List ℤ). Carries (flat_map (collapse triples r) (around r)) z z) (loop_collapsed triples l r e out)
+      (carries_image l.reduction l.substitution (collapse triples r) (around r) (loop triples (pos e)) (loop triples (pos e)) (collapse-odd triples r)
+      (around_commutes r (loop triples (pos e)) (loop_closed triples l (pos e) r out.label out.root)))
+
+  same_at_root : (t : ℕ) → t < length triples → reduce (p (root_of triples t)) ≡ reduce (q (root_of triples t))
+  same_at_root t below =
+      let r : ℕ = root_of triples t in
+      let (i, j, ne, a, b) = l.forest.outside t below in
+      let nothing : reduce (flat_map (collapse triples r) (around r)) ≡ [] =
+      centraliser l.reduction l.substitution l.cyclic (pos i) (pos j) (flat_map (collapse triples r) (around r)) ne
+      (around_letter r i (edge_at_outer triples r i a)) (around_letter r j (edge_at_outer triples r j b)) in
+      let closed : reduce (around r) ≡ reduce [] =
+      collapse_injective triples l r r r (around r) [] (own_root triples l t below) (around_closed r (root_below triples l t below)) refl nothing in
+      by_fact l.reduction l.substitution (p r ∷ q r ∷ []) (+0 ∷ []) (+1 ∷ []) [] (+0 ∷ -1 ∷ []) [] (+1 ∷ []) refl closed refl
+
+  -- a walk of an inner map is that of the root between the tree and its image
+  from_root : (o : ℕ → List ℤ) → IsInner triples f f0 o → (t : ℕ) → t < length triples
+      → reduce (o t) ≡ reduce (inverse_word (tree_walk triples t) ++ (o (root_of triples t) ++ flat_map f (tree_walk triples t)))
+  from_root o n t below =
+      by_fact l.reduction l.substitution
+      (tree_walk triples t ∷ o (root_of triples t) ∷ flat_map f (tree_walk triples t) ∷ o t ∷ []) (+3 ∷ []) (-0 ∷ +1 ∷ +2 ∷ [])
+      (-0 ∷ []) (+0 ∷ +3 ∷ []) (+1 ∷ +2 ∷ []) [] refl
+      (sym (inner_along l.reduction l.substitution triples f f0 o (root_of triples t) t (tree_walk triples t) n (l.forest.walk t below))) refl
+
+  pub same_walks : (t : ℕ) → t < length triples → reduce (p t) ≡ reduce (q t)
+  same_walks t below =
+      from_root p h t below
+      ∙ reduce-inside l.reduction (inverse_word (tree_walk triples t)) (p (root_of triples t)) (q (root_of triples t)) (flat_map f (tree_walk triples t))
+      (same_at_root t below)
+      ∙ sym (from_root q k t below)
+
+-- ---- the laws
+
+pub inner_test_laws : ((triples : List (List ℤ)) → IsTriangulation triples → Laws triples) → InnerTestLaws
+inner_test_laws laws = record {
+  loops = λ triples tri. test_loops triples (laws triples tri);
+  kept = λ triples f f0 p tri m h. inner_kept triples (laws triples tri) f f0 m p h;
+  inner = λ triples f f0 tri m kept. kept_inner triples (laws triples tri) f f0 m kept;
+  only = λ triples f f0 p q tri m h k t below. same_walks triples (laws triples tri) f f0 p q h k t below;
+}
