@@ -8,7 +8,7 @@ use Rattle.ideal_tri.specs.Triangulations.{IsWalk, IsTriangulation, triangle_of}
 use Rattle.tri_atlas.specs.Maps.{IsMap}
 use Rattle.free_groupoid.specs.TestWalks.{root_of, tree_walk, loop, outer_edges, edges_at, root_of_edge, test_walks}
 use Rattle.free_groupoid.specs.Inner.{IsInner, IsKept}
-use Rattle.free_groupoid.specs.InnerLaws.{InnerTestLaws}
+use Rattle.free_groupoid.specs.InnerLaws.{InnerLaws}
 use Rattle.free_groupoid.specs.inside.InnerPaths.{collapse}
 use Rattle.free_groupoid.proofs.Letters.{reduce-inside}
 use Rattle.free_groupoid.proofs.Names.{+0, -0, +1, -1, +2, +3, by_fact}
@@ -108,10 +108,10 @@ module _ (triples : List (List ℤ)) (l : Laws triples) (f : ℤ → List ℤ) (
 
 -- ---- the laws
 
-pub inner_test_laws : ((triples : List (List ℤ)) → IsTriangulation triples → Laws triples) → InnerTestLaws
+pub inner_test_laws : ((triples : List (List ℤ)) → IsTriangulation triples → Laws triples) → InnerLaws
 inner_test_laws laws = record {
   loops = λ triples tri. test_loops triples (laws triples tri);
   kept = λ triples f f0 p tri m h. inner_kept triples (laws triples tri) f f0 m p h;
   inner = λ triples f f0 tri m kept. kept_inner triples (laws triples tri) f f0 m kept;
-  only = λ triples f f0 p q tri m h k t below. same_walks triples (laws triples tri) f f0 p q h k t below;
+  only = λ triples f f0 p q tri h k t below. same_walks triples (laws triples tri) f f0 p q h k t below;
 }

@@ -16,7 +16,7 @@ IsReducedLoop triples (x ∷ w) =
     × IsCyclicallyReduced (x ∷ w)
 
 -- a map is inner exactly where it keeps each test walk, and by one list of reduced walks alone
-pub record InnerTestLaws : Type 0 where
+pub record InnerLaws : Type 0 where
   pub loops : (triples : List (List ℤ)) → IsTriangulation triples
       → All (IsReducedLoop triples) (test_walks triples)
   pub kept : (triples : List (List ℤ)) (f : ℤ → List ℤ) (triangles : ℕ → ℕ) (paths : ℕ → List ℤ)
@@ -27,7 +27,7 @@ pub record InnerTestLaws : Type 0 where
       → All (IsKept f) (test_walks triples)
       → IsInner triples f triangles (inner_path triples f triangles)
   pub only : (triples : List (List ℤ)) (f : ℤ → List ℤ) (triangles : ℕ → ℕ)
-      (paths others : ℕ → List ℤ) → IsTriangulation triples → IsMap triples triples f triangles
+      (paths others : ℕ → List ℤ) → IsTriangulation triples
       → IsInner triples f triangles paths → IsInner triples f triangles others
       → (t : ℕ) → t < length triples → reduce (paths t) ≡ reduce (others t)
 

@@ -49,7 +49,7 @@ pub record RelationLaws : Type 0 where
 
 -- two maps of paths are related exactly where they are alike at each test walk, and by one list of
 -- reduced walks alone
-pub record RelatedTestLaws : Type 0 where
+pub record RelatedLaws : Type 0 where
   pub alike : (source target : List (List ℤ)) (first second : List Move)
       (f_triangles g_triangles : ℕ → ℕ) (paths : ℕ → List ℤ)
       → IsPathMap source target first f_triangles → IsPathMap source target second g_triangles

@@ -3,4 +3,4 @@
 
 mod laws;
 
-pub use laws::inner_laws;
+pub use laws::{forest_laws, inner_laws, related_laws};
