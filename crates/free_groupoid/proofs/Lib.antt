@@ -34,3 +34,4 @@ pub mod Conjugators
 pub mod RootWalks
 pub mod ComputedPaths
 pub mod InnerTest
+pub mod Returns
