@@ -35,3 +35,4 @@ pub mod RootWalks
 pub mod ComputedPaths
 pub mod InnerTest
 pub mod Returns
+pub mod RelatedTest
