@@ -1,5 +1,5 @@
-// Flips of the once-punctured torus, where the sides of the quadrilateral are glued to each other, and of a sphere with
-// folded edges.
+// Flips of the once-punctured torus, where the sides of the quadrilateral are glued to each other,
+// and of a sphere with folded edges.
 ghost use Rattle.std.specs.Prelude.{◌≡◌};
 ghost use Rattle.tri_atlas.specs.Steps.{edge_in};
 
@@ -8,7 +8,7 @@ use ideal_tri::{Label, Tri};
 use std::test::Fail;
 use tri_atlas::Carried;
 
-// The edge that was carried.
+/// The edge that was carried.
 fn edge(carried: Carried) -> EdgeId
     ensures { result ≡ edge_in carried }
 {

@@ -1,4 +1,4 @@
--- Triples that are refused are no triangulation, and a list that is refused is no relabelling.
+-- Triples that are refused are no connected triangulation, and a list that is refused is no relabelling.
 use Rattle.std.proofs.Common.{◌≡◌, ◌+◌, ◌<◌, ◌≤◌, ℕ, ℤ, pos, Bool, true, false, cond, List, [], ◌∷◌, length, take, get_or, refl, sym, ◌∙◌, ap, subst, arith, nat_eq, nat_lt, inl, inr, Option, Some, Result, Ok, Err, String, Global, All}
 use Rattle.std.specs.Result.{IfOk, IfErr, result_ok}
 use Rattle.std.specs.List.{count_by}
@@ -8,7 +8,7 @@ use Rattle.std.proofs.lemmas.Bool.Decides.{Decides-int_eq, nat_tests}
 use Rattle.std.proofs.lemmas.List.Elements.{All-head, All-tail}
 use Rattle.std.proofs.lemmas.List.Sums.{sum_by-cons, sum_by-take-le, count_by_more_yes}
 use Rattle.ideal_tri.specs.Labels.{edge_of}
-use Rattle.ideal_tri.specs.Triangulations.{labels_of, edge_count, IsLabel, IsTriangulation}
+use Rattle.ideal_tri.specs.Triangulations.{labels_of, edge_count, IsLabel, IsTriangulation, IsConnected}
 use Rattle.ideal_tri.specs.Refusals.{IsOfGoodSize, IsRefusedFor}
 use Rattle.ideal_tri.specs.declared.tri.TriError.{TriError}
 use Rattle.ideal_tri.specs.declared.tri.TriError.TheVariants.{NoTriangle, TooManyEdges, LabelRange, LabelTwice, Disconnected}
@@ -47,13 +47,13 @@ is_label ts x t h =
     let e : occurrences (labels_of ts) x ≡ cond (nat_lt (edge_of x) (edge_count ts)) 1 0 = t.labels x in
     grind (arith, nat_tests)
 
-pub no_triangulation : (ts : List (List ℤ)) (e : TriError) → IsRefusedFor ts e → edge_count ts < 49 → IsTriangulation ts → ⊥
-no_triangulation ts NoTriangle r few t = let some : 0 < length ts = t.some in omega arith
-no_triangulation ts (TooManyEdges n) r few t = let many : 48 < edge_count ts = r.0 in omega arith
-no_triangulation ts (LabelRange x) r few t =
+pub no_triangulation : (ts : List (List ℤ)) (e : TriError) → IsRefusedFor ts e → edge_count ts < 49 → IsTriangulation ts → IsConnected ts → ⊥
+no_triangulation ts NoTriangle r few t whole = let some : 0 < length ts = t.some in omega arith
+no_triangulation ts (TooManyEdges n) r few t whole = let many : 48 < edge_count ts = r.0 in omega arith
+no_triangulation ts (LabelRange x) r few t whole =
     let above : occurrences (take r.1.place (labels_of ts)) x + 1 ≤ occurrences (labels_of ts) x = stands_at (labels_of ts) r.1.place x r.1.within r.1.is in
     r.1.outside (is_label ts x t (omega arith))
-no_triangulation ts (LabelTwice x) r few t =
+no_triangulation ts (LabelTwice x) r few t whole =
     let f = r.2 in
     let (k, below, is) = f.again in
     let first : occurrences (take k (take f.place (labels_of ts))) x + 1 ≤ occurrences (take f.place (labels_of ts)) x =
@@ -61,7 +61,7 @@ no_triangulation ts (LabelTwice x) r few t =
     let second : occurrences (take f.place (labels_of ts)) x + 1 ≤ occurrences (labels_of ts) x = stands_at (labels_of ts) f.place x f.within f.is in
     let once : occurrences (labels_of ts) x ≤ 1 = stands_once ts x t in
     omega arith
-no_triangulation ts (Disconnected k) r few t = r.3.unreached (t.connected k r.3.within)
+no_triangulation ts (Disconnected k) r few t whole = r.2.unreached (whole.reached k r.2.within)
 
 -- ---- relabellings
 
@@ -92,15 +92,20 @@ no_relabelling from to images (BreaksTriangle t) r h = r.3.broken (h.triangles t
 
 pub told_triangulation : (told : Option (List (List ℤ))) (triples read : List (List ℤ)) (r : Result (List (List ℤ)) TriError)
     → Some triples ≡ told → read ≡ triples
-    → IfOk r (λ t. IsTriangulation read × (t ≡ read)) → IfOk r (λ _. IsOfGoodSize read) → IfErr r (IsRefusedFor read)
-    → IsFound told (λ ts. (edge_count ts < 49) × IsTriangulation ts) (result_ok r)
-told_triangulation told triples read (Ok t) tells is accepted size refused = (
+    → IfOk r (λ t. IsTriangulation read × (t ≡ read)) → IfOk r IsConnected → IfOk r (λ _. IsOfGoodSize read) → IfErr r (IsRefusedFor read)
+    → IsFound told (λ ts. (edge_count ts < 49) × IsTriangulation ts × IsConnected ts) (result_ok r)
+told_triangulation told triples read (Ok t) tells is accepted whole size refused = (
   cc,
-  subst (λ (z : List (List ℤ)). (edge_count z < 49) × IsTriangulation z) (sym accepted.1) (size.few, accepted.0),
+  (
+    subst (λ (z : List (List ℤ)). edge_count z < 49) (sym accepted.1) (omega (arith, size.few)),
+    subst IsTriangulation (sym accepted.1) accepted.0,
+    whole,
+  ),
 )
-told_triangulation told triples read (Err e) tells is accepted size refused = λ ts says good.
+told_triangulation told triples read (Err e) tells is accepted whole size refused = λ ts says good.
     (let same : ts ≡ read = cc in
-    no_triangulation read e refused (subst (λ (z : List (List ℤ)). edge_count z < 49) same good.0) (subst IsTriangulation same good.1))
+    no_triangulation read e refused (subst (λ (z : List (List ℤ)). edge_count z < 49) same good.0) (subst IsTriangulation same good.1)
+    (subst IsConnected same good.2))
 
 pub told_no_relabelling : (triples : List (List ℤ)) (told : Option Generator) (name : String Global) (images read : List ℤ) (e : RelabelError)
     → Some (generator_of name images) ≡ told → read ≡ images → IsRefusedAsRelabelling triples triples read e

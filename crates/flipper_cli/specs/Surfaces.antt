@@ -7,7 +7,7 @@ use Rattle.std.specs.Option.{option_map, option_map_or}
 use Rattle.std.specs.Str.{bytes_eq}
 use Rattle.serde_json.specs.Data.{Data, Items, no_items, item}
 use Rattle.serde_json.specs.Find.{get, as_str, as_array, as_number, as_i64}
-use Rattle.ideal_tri.specs.Triangulations.{IsTriangulation, edge_count}
+use Rattle.ideal_tri.specs.Triangulations.{IsTriangulation, IsConnected, edge_count}
 use Rattle.ideal_tri.specs.Relabellings.{IsRelabelling}
 use Rattle.flipper_cli.specs.Names.{is_generator_name, is_surface_name}
 
@@ -90,10 +90,11 @@ surface_in d =
     then option_and_then (λ ts. option_map (λ gs. record { triangles = ts; generators = gs }) (generators_in d)) (triangles_in d)
     else None
 
--- the triangles are a triangulation of at most 48 edges, and each generator is a relabelling of it
+-- the triangles are a connected triangulation of at most 48 edges, and each generator is a relabelling of it
 pub record IsSound (s : Surface) : Type 0 where
   pub few : edge_count s.triangles < 49
   pub triangulation : IsTriangulation s.triangles
+  pub connected : IsConnected s.triangles
   pub relabellings : All (λ g. IsRelabelling s.triangles s.triangles g.images) s.generators
 
 -- ---- what isn't built: twists and flips

@@ -7,7 +7,7 @@ ghost use Rattle.std.specs.Str.{bytes_eq};
 ghost use Rattle.serde_json.specs.Find.{get, as_str};
 ghost use Rattle.serde_json.specs.View.{view};
 ghost use Rattle.flipper_cli.specs.Names.{is_surface_name};
-ghost use Rattle.ideal_tri.specs.Triangulations.{edge_count, IsTriangulation};
+ghost use Rattle.ideal_tri.specs.Triangulations.{edge_count, IsTriangulation, IsConnected};
 ghost use Rattle.ideal_tri.specs.Relabellings.{IsRelabelling};
 ghost use Rattle.flipper_cli.specs.KeptSurface.{generator_of, generators_of, surface_of, IsFound};
 ghost use Rattle.flipper_cli.specs.Report.{images_of, surface_limit, IsSurface, IsNotBuilt, IsNoSurface};
@@ -219,10 +219,10 @@ fn relabellings_in(
     Ok(Some(generators))
 }
 
-// The triangulation of at most 48 edges whose triangles are listed.
+// The connected triangulation of at most 48 edges whose triangles are listed.
 fn triangulation_in(alloc: Global, tree: &Value) -> Result<Option<Tri>, Memory>
     ensures { IfOk result (λ found. IsFound (triangles_in (view tree.now))
-        (λ ts. (edge_count ts < 49) × IsTriangulation ts) found) }
+        (λ ts. (edge_count ts < 49) × IsTriangulation ts × IsConnected ts) found) }
 {
     let Some(triangles) = triangles_in(alloc, tree)? else {
         return Ok(None);

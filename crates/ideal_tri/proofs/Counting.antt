@@ -2,13 +2,14 @@
 use Rattle.std.proofs.Common.{ℕ, ℤ, pos, negsuc, Bool, true, false, cond, List, [], ◌∷◌, ◌≡◌, ◌≢◌, ◌≤◌, ◌<◌, ◌+◌, ◌*◌, ◌/◌, suc, zero, ◌⊎◌, inl, inr, refl, sym, ◌∙◌, ap, arith, length, get_or, ltb, length-append}
 use Rattle.std.specs.List.{All, count_by}
 use Rattle.std.specs.Ordering.{int_eq}
-use Rattle.std.proofs.lemmas.Bool.Decides.{Decides-int_eq, nat_tests}
+use Rattle.std.proofs.lemmas.Bool.Decides.{nat_tests}
 use Rattle.std.proofs.lemmas.List.Elements.{All-head, All-tail}
 use Rattle.std.proofs.lemmas.List.Sums.{sum_by-cons}
+use Rattle.ideal_tri.specs.declared.tri.TheConstants.{NOWHERE, TRIANGLES}
 use Rattle.ideal_tri.specs.Labels.{edge_of}
 use Rattle.ideal_tri.specs.Triangulations.{labels_of, edge_count, IsLabel}
 use Rattle.ideal_tri.specs.Refusals.{IsDistinct, IsOfGoodSize}
-use Rattle.ideal_tri.proofs.Labels.{same_or_not}
+use Rattle.ideal_tri.proofs.Labels.{same_or_not, int_eq-same, int_eq-other}
 use Rattle.ideal_tri.proofs.Places.{small_size}
 
 -- how often a label stands in a list
@@ -23,14 +24,10 @@ pub count-cons : (y : ℤ) (ys : List ℤ) (x : ℤ) → count (y ∷ ys) x ≡ 
 count-cons y ys x = sum_by-cons (λ z. cond (int_eq z x) 1 0) y ys
 
 pub hit_same : (x : ℤ) → hit x x ≡ 1
-hit_same x = ap (λ (b : Bool). cond b 1 0) ((Decides-int_eq x x).1 refl)
+hit_same x = ap (λ (b : Bool). cond b 1 0) (int_eq-same x x refl)
 
 hit_other : (y x : ℤ) → y ≢ x → hit y x ≡ 0
-hit_other y x ne = go (int_eq y x) refl
-  where
-    go : (b : Bool) → int_eq y x ≡ b → ◌≡◌ {A = ℕ} (cond b 1 0) 0
-    go true e = absurd (ne ((Decides-int_eq y x).0 e))
-    go false e = refl
+hit_other y x ne = ap (λ (b : Bool). cond b 1 0) (int_eq-other y x ne)
 
 pub never : (xs : List ℤ) (x : ℤ) → ((k : ℕ) → k < length xs → get_or xs k (pos 0) ≢ x) → count xs x ≡ 0
 never [] x h = refl
@@ -176,8 +173,8 @@ label_counts ts h x =
       | inr b ↦ (let none : count (labels_of ts) x ≡ 0 = h.none x b in grind (arith, nat_tests))
     ]
 
-pub below_255 : (ts : List (List ℤ)) (xs : List ℤ) (k : ℕ) → xs ≡ labels_of ts → IsOfGoodSize ts → All (λ t. length t ≡ 3) ts → k < length xs → k < 255
+pub below_255 : (ts : List (List ℤ)) (xs : List ℤ) (k : ℕ) → xs ≡ labels_of ts → IsOfGoodSize ts → All (λ t. length t ≡ 3) ts → k < length xs → k < NOWHERE
 below_255 ts xs k e size three b =
-    let small : length ts ≤ 32 = small_size ts size in
+    let small : length ts ≤ TRIANGLES = small_size ts size in
     let long : length xs ≡ 3 * length ts = ap length e ∙ length-labels_of ts three in
     omega arith

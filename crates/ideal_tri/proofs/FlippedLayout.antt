@@ -2,10 +2,11 @@
 use Rattle.std.proofs.Common.{ℕ, ℤ, List, [], ◌∷◌, ◌≡◌, ◌≤◌, ◌<◌, ◌*◌, sym, ◌∙◌, ap, subst, arith, length, take, set, get_or}
 use Rattle.std.proofs.lemmas.List.{length-set, get_or-set_same, get_or-set_other, drop-set-lt, length-take-le}
 use Rattle.std.proofs.Math.Seq.{take-set-lt}
+use Rattle.ideal_tri.specs.declared.tri.TheConstants.{EDGES, TRIANGLES}
 use Rattle.ideal_tri.specs.Labels.{inverse}
 use Rattle.ideal_tri.specs.Triangulations.{labels_of, IsLabel, IsTriangulation, triangle_of, next, previous}
 use Rattle.ideal_tri.specs.Flips.{IsFlippable, flipped}
-use Rattle.ideal_tri.specs.Places.{with_places, places_of, IsGlued, IsLaidOut}
+use Rattle.ideal_tri.specs.inside.Places.{with_places, places_of, IsGlued, IsLaidOut}
 use Rattle.ideal_tri.proofs.Tables.{glued, AreChanged, changed_table}
 use Rattle.ideal_tri.proofs.FlippedTriangulation.{flip_laws}
 
@@ -69,7 +70,7 @@ table_is ts places e h sound label flippable within =
         glued (flipped ts e) (flip_laws ts e sound label flippable).triangulation
         (record {
           some = subst (λ (n : ℕ). 0 < n) (sym (changed ts e within flippable).long) h.size.some;
-          few = subst (λ (n : ℕ). n < 49) (sym (flip_laws ts e sound label flippable).edges) h.size.few;
+          few = subst (λ (n : ℕ). n ≤ EDGES) (sym (flip_laws ts e sound label flippable).edges) h.size.few;
         })
 
 -- the array, with the two triangles written anew
@@ -98,8 +99,8 @@ pub flipped_fields : (count : ℕ) (sides : List (List ℤ)) (places : List ℕ)
     (second_of (take count sides) e))
     ≡ flipped (take count sides) e)
 flipped_fields count sides places e h label flippable first second =
-    let fits : count ≤ 32 = h.fits in
-    let room : length sides ≡ 32 = h.room in
+    let fits : count ≤ TRIANGLES = h.fits in
+    let room : length sides ≡ TRIANGLES = h.room in
     let long : length (take count sides) ≡ count = length-take-le count sides (omega arith) in
     let first_in : triangle_of (take count sides) e < count = omega arith in
     let second_in : triangle_of (take count sides) (inverse e) < count = omega arith in (

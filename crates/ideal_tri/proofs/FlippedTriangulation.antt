@@ -3,32 +3,13 @@ use Rattle.std.proofs.Common.{ℕ, ℤ, pos, negsuc, List, [], ◌∷◌, ◌++�
 use Rattle.std.proofs.lemmas.List.{set_comm}
 use Rattle.std.proofs.lemmas.List.Elements.{All-set}
 use Rattle.ideal_tri.specs.Labels.{inverse, edge_of}
-use Rattle.ideal_tri.specs.Words.{inverse_word}
-use Rattle.ideal_tri.specs.Triangulations.{labels_of, IsLabel, IsWalk, IsReached, IsTriangulation, triangle_of, next, previous}
+use Rattle.ideal_tri.specs.Triangulations.{labels_of, IsLabel, IsWalk, IsReached, IsTriangulation, IsConnected, triangle_of, next, previous}
 use Rattle.ideal_tri.specs.Flips.{IsFlippable, flipped}
-use Rattle.ideal_tri.specs.FlipLaws.{IsOutside, FlipLaws}
+use Rattle.ideal_tri.specs.FlipLaws.{IsOutside, OneFlipLaws}
 use Rattle.ideal_tri.proofs.Labels.{inverse-inverse, inverse_label, same_or_not}
 use Rattle.ideal_tri.proofs.Triangles.{times, IsOnce-triangulation}
-use Rattle.ideal_tri.proofs.Walks.{walks_join, walk_back}
+use Rattle.ideal_tri.proofs.Walks.{reached_here, reached_step, reached_along, reached_back}
 use Rattle.ideal_tri.proofs.Flips.{StandsAt, label_stands, Quadrilateral, turned_edge-length, turned_edge-times, turned_edge-first, turned_edge-second, turned_edge-still, turned_edge-stays, six_distinct}
-
--- ---- triangles that a walk joins
-
-record IsJoined (triples : List (List ℤ)) (s t : ℕ) : Type 0 where
-  letters : List ℤ
-  walk : IsWalk triples s letters t
-
-joined_here : (triples : List (List ℤ)) (s t : ℕ) → s ≡ t → IsJoined triples s t
-joined_here triples s t e = record { letters = []; walk = e }
-
-joined_step : (triples : List (List ℤ)) (x : ℤ) → IsLabel triples x → IsJoined triples (triangle_of triples x) (triangle_of triples (inverse x))
-joined_step triples x l = record { letters = x ∷ []; walk = (l, refl, refl) }
-
-joined_along : (triples : List (List ℤ)) (r s t : ℕ) → IsJoined triples r s → IsJoined triples s t → IsJoined triples r t
-joined_along triples r s t u v = record { letters = u.letters ++ v.letters; walk = walks_join triples r s t u.letters v.letters u.walk v.walk }
-
-joined_back : (triples : List (List ℤ)) (s t : ℕ) → IsJoined triples s t → IsJoined triples t s
-joined_back triples s t u = record { letters = inverse_word u.letters; walk = walk_back triples s t u.letters u.walk }
 
 -- ---- what stands where after the flip
 
@@ -128,63 +109,66 @@ label_after : (triples : List (List ℤ)) (e x : ℤ) → IsLabel triples x → 
 label_after triples e x l = subst (λ (n : ℕ). edge_of x < 3 * n / 2) (sym (flipped-length triples e)) l
 
 -- the edge joins its two triangles
-joined_edge : (triples : List (List ℤ)) (e : ℤ) → CanFlip triples e → IsJoined (flipped triples e) (triangle_of triples e) (triangle_of triples (inverse e))
-joined_edge triples e can = record {
+reached_edge : (triples : List (List ℤ)) (e : ℤ) → CanFlip triples e → IsReached (flipped triples e) (triangle_of triples e) (triangle_of triples (inverse e))
+reached_edge triples e can = record {
   letters = e ∷ [];
   walk = (label_after triples e e can.label, (flipped-first triples e can).sides.first.triangle, (flipped-second triples e can).sides.first.triangle);
 }
 
 -- from the triangle of a label before the flip to that after it
-joined_moved : (triples : List (List ℤ)) (e : ℤ) → CanFlip triples e → (x : ℤ) → IsLabel triples x
-    → IsJoined (flipped triples e) (triangle_of triples x) (triangle_of (flipped triples e) x)
-joined_moved triples e can x l =
+reached_moved : (triples : List (List ℤ)) (e : ℤ) → CanFlip triples e → (x : ℤ) → IsLabel triples x
+    → IsReached (flipped triples e) (triangle_of triples x) (triangle_of (flipped triples e) x)
+reached_moved triples e can x l =
     elim (same_or_not x (previous triples e)) [
       | inl b ↦
           moved (triangle_of triples e) (triangle_of triples (inverse e))
           (ap (triangle_of triples) b ∙ (quadrilateral_at triples e can).first.sides.third.triangle)
-          (ap (triangle_of (flipped triples e)) b ∙ (flipped-second triples e can).sides.second.triangle) (joined_edge triples e can)
+          (ap (triangle_of (flipped triples e)) b ∙ (flipped-second triples e can).sides.second.triangle) (reached_edge triples e can)
       | inr not_b ↦
           elim (same_or_not x (previous triples (inverse e))) [
             | inl d ↦
                 moved (triangle_of triples (inverse e)) (triangle_of triples e)
                 (ap (triangle_of triples) d ∙ (quadrilateral_at triples e can).second.sides.third.triangle)
                 (ap (triangle_of (flipped triples e)) d ∙ (flipped-first triples e can).sides.second.triangle)
-                (joined_back (flipped triples e) (triangle_of triples e) (triangle_of triples (inverse e)) (joined_edge triples e can))
+                (reached_back (flipped triples e) (triangle_of triples e) (triangle_of triples (inverse e)) (reached_edge triples e can))
             | inr not_d ↦
-                joined_here (flipped triples e) (triangle_of triples x) (triangle_of (flipped triples e) x)
+                reached_here (flipped triples e) (triangle_of triples x) (triangle_of (flipped triples e) x)
                 (sym (flipped-stays triples e can x l not_b not_d))
           ]
     ]
   where
-    moved : (s t : ℕ) → triangle_of triples x ≡ s → triangle_of (flipped triples e) x ≡ t → IsJoined (flipped triples e) s t
-        → IsJoined (flipped triples e) (triangle_of triples x) (triangle_of (flipped triples e) x)
+    moved : (s t : ℕ) → triangle_of triples x ≡ s → triangle_of (flipped triples e) x ≡ t → IsReached (flipped triples e) s t
+        → IsReached (flipped triples e) (triangle_of triples x) (triangle_of (flipped triples e) x)
     moved s t before after joined =
-        subst (λ (k : ℕ). IsJoined (flipped triples e) k (triangle_of (flipped triples e) x)) (sym before)
-        (subst (IsJoined (flipped triples e) s) (sym after) joined)
+        subst (λ (k : ℕ). IsReached (flipped triples e) k (triangle_of (flipped triples e) x)) (sym before)
+        (subst (IsReached (flipped triples e) s) (sym after) joined)
 
 -- neighbours stay joined
-joined_across : (triples : List (List ℤ)) (e : ℤ) → CanFlip triples e → (x : ℤ) → IsLabel triples x
-    → IsJoined (flipped triples e) (triangle_of triples x) (triangle_of triples (inverse x))
-joined_across triples e can x l =
-    joined_along (flipped triples e) (triangle_of triples x) (triangle_of (flipped triples e) x) (triangle_of triples (inverse x))
-    (joined_moved triples e can x l)
-    (joined_along (flipped triples e) (triangle_of (flipped triples e) x) (triangle_of (flipped triples e) (inverse x)) (triangle_of triples (inverse x))
-    (joined_step (flipped triples e) x (label_after triples e x l))
-    (joined_back (flipped triples e) (triangle_of triples (inverse x)) (triangle_of (flipped triples e) (inverse x))
-    (joined_moved triples e can (inverse x) (inverse_label triples x l))))
+reached_across : (triples : List (List ℤ)) (e : ℤ) → CanFlip triples e → (x : ℤ) → IsLabel triples x
+    → IsReached (flipped triples e) (triangle_of triples x) (triangle_of triples (inverse x))
+reached_across triples e can x l =
+    reached_along (flipped triples e) (triangle_of triples x) (triangle_of (flipped triples e) x) (triangle_of triples (inverse x))
+    (reached_moved triples e can x l)
+    (reached_along (flipped triples e) (triangle_of (flipped triples e) x) (triangle_of (flipped triples e) (inverse x)) (triangle_of triples (inverse x))
+    (reached_step (flipped triples e) x (label_after triples e x l))
+    (reached_back (flipped triples e) (triangle_of triples (inverse x)) (triangle_of (flipped triples e) (inverse x))
+    (reached_moved triples e can (inverse x) (inverse_label triples x l))))
 
 -- so the ends of a walk stay joined
-joined_walk : (triples : List (List ℤ)) (e : ℤ) → CanFlip triples e → (s t : ℕ) (w : List ℤ) → IsWalk triples s w t → IsJoined (flipped triples e) s t
-joined_walk triples e can s t [] walk = joined_here (flipped triples e) s t walk
-joined_walk triples e can s t (x ∷ w) walk =
-    joined_along (flipped triples e) s (triangle_of triples (inverse x)) t
-    (subst (λ (k : ℕ). IsJoined (flipped triples e) k (triangle_of triples (inverse x))) walk.1 (joined_across triples e can x walk.0))
-    (joined_walk triples e can (triangle_of triples (inverse x)) t w walk.2)
+reached_walk : (triples : List (List ℤ)) (e : ℤ) → CanFlip triples e → (s t : ℕ) (w : List ℤ) → IsWalk triples s w t → IsReached (flipped triples e) s t
+reached_walk triples e can s t [] walk = reached_here (flipped triples e) s t walk
+reached_walk triples e can s t (x ∷ w) walk =
+    reached_along (flipped triples e) s (triangle_of triples (inverse x)) t
+    (subst (λ (k : ℕ). IsReached (flipped triples e) k (triangle_of triples (inverse x))) walk.1 (reached_across triples e can x walk.0))
+    (reached_walk triples e can (triangle_of triples (inverse x)) t w walk.2)
 
-reached_after : (triples : List (List ℤ)) (e : ℤ) → CanFlip triples e → (t : ℕ) → IsReached triples t → IsReached (flipped triples e) t
-reached_after triples e can t r =
-    let joined = joined_walk triples e can 0 t r.letters r.walk in
-    record { letters = joined.letters; walk = joined.walk }
+reached_after : (triples : List (List ℤ)) (e : ℤ) → CanFlip triples e → (s t : ℕ) → IsReached triples s t → IsReached (flipped triples e) s t
+reached_after triples e can s t r = reached_walk triples e can s t r.letters r.walk
+
+connected_after : (triples : List (List ℤ)) (e : ℤ) → CanFlip triples e → IsConnected triples → IsConnected (flipped triples e)
+connected_after triples e can h = record {
+  reached = λ t below. reached_after triples e can 0 t (h.reached t (subst (λ (n : ℕ). t < n) (flipped-length triples e) below));
+}
 
 -- ---- the laws
 
@@ -201,13 +185,14 @@ flipped-triangulation triples e can = record {
   labels = λ x.
       flipped-times triples e can x ∙ can.whole.labels x
       ∙ ap (λ (n : ℕ). cond (nat_lt (edge_of x) (3 * n / 2)) 1 0) (sym (flipped-length triples e));
-  connected = λ t below. reached_after triples e can t (can.whole.connected t (subst (λ (n : ℕ). t < n) (flipped-length triples e) below));
 }
 
-laws_of : (triples : List (List ℤ)) (e : ℤ) → CanFlip triples e → FlipLaws triples e
+laws_of : (triples : List (List ℤ)) (e : ℤ) → CanFlip triples e → OneFlipLaws triples e
 laws_of triples e can = record {
   triangulation = flipped-triangulation triples e can;
   edges = ap (λ (n : ℕ). 3 * n / 2) (flipped-length triples e);
+  reached = reached_after triples e can;
+  connected = connected_after triples e can;
   other_side = flipped-inverse triples e can.flippable;
   different =
       six_distinct triples e (next triples e) (previous triples e) (inverse e) (next triples (inverse e)) (previous triples (inverse e))
@@ -224,5 +209,5 @@ laws_of triples e can = record {
   stays = flipped-stays triples e can;
 }
 
-pub flip_laws : (triples : List (List ℤ)) (e : ℤ) → IsTriangulation triples → IsLabel triples e → IsFlippable triples e → FlipLaws triples e
+pub flip_laws : (triples : List (List ℤ)) (e : ℤ) → IsTriangulation triples → IsLabel triples e → IsFlippable triples e → OneFlipLaws triples e
 flip_laws triples e whole label flippable = laws_of triples e (record { whole = whole; label = label; flippable = flippable })

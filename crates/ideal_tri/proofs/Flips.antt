@@ -8,7 +8,8 @@ use Rattle.std.proofs.lemmas.List.Elements.{All-nil, All-cons}
 use Rattle.std.proofs.lemmas.List.Sums.{sum_by-cons, sum_by-set}
 use Rattle.ideal_tri.specs.Triangulations.{labels_of, IsLabel, IsTriangulation, triangle_of, next, previous}
 use Rattle.ideal_tri.specs.Refusals.{IsDistinct}
-use Rattle.ideal_tri.proofs.Triangles.{times, times-cons, times-append, IsOnce, IsOnce-tail, IsOnce-triangulation, Triangle, turned, first_triangle, later_triangle, triangle_at, counted_once, previous-is}
+use Rattle.ideal_tri.proofs.Triangles.{times, times-cons, times-append, IsOnce, IsOnce-tail, IsOnce-triangulation, Triangle, turned, triangle_at, counted_once, previous-is}
+use Rattle.ideal_tri.proofs.Triples.{three_listed, triangle_at_place}
 
 -- ---- the triple at a place
 
@@ -20,14 +21,6 @@ IsTurned t x y z = (t ≡ x ∷ (y ∷ (z ∷ []))) ⊎ ((t ≡ y ∷ (z ∷ (x 
 pub record StandsAt (triples : List (List ℤ)) (x y z : ℤ) (n : ℕ) : Type 0 where
   pub sides : Triangle triples x y z n
   pub is : IsTurned (get_or triples n []) x y z
-
-triangle_at_place : (triples : List (List ℤ)) (n : ℕ) (a b c : ℤ) → IsOnce triples → n < length triples
-    → get_or triples n [] ≡ a ∷ (b ∷ (c ∷ [])) → Triangle triples a b c n
-triangle_at_place [] n a b c h l e = absurd (omega arith)
-triangle_at_place (t ∷ rest) zero a b c h l e =
-    subst (λ (u : List ℤ). Triangle (u ∷ rest) a b c 0) (sym e) (first_triangle a b c rest (subst (λ (u : List ℤ). IsOnce (u ∷ rest)) e h))
-triangle_at_place (t ∷ rest) (suc n) a b c h l e =
-    later_triangle t rest a b c n h (triangle_at_place rest n a b c (IsOnce-tail t rest h) (omega arith) e)
 
 -- the triple at a place gives the triangle
 pub stands_at : (triples : List (List ℤ)) (x y z : ℤ) (n : ℕ) → IsOnce triples → n < length triples → get_or triples n [] ≡ x ∷ (y ∷ (z ∷ []))
@@ -53,27 +46,15 @@ stands_still triples others x y z n h l same s = go s.is
         stands_turned others z x y n (stands_turned others y z x n (stands_at others y z x n h l (same ∙ e)))
     go (inr (inr e)) = stands_turned others z x y n (stands_at others z x y n h l (same ∙ e))
 
--- a list of length 3
-record IsOfThree (t : List ℤ) : Type 0 where
-  a : ℤ
-  b : ℤ
-  c : ℤ
-  is : t ≡ a ∷ (b ∷ (c ∷ []))
-
-of_three : (t : List ℤ) → length t ≡ 3 → IsOfThree t
-of_three [] l = absurd (omega arith)
-of_three (a ∷ []) l = absurd (omega arith)
-of_three (a ∷ (b ∷ [])) l = absurd (omega arith)
-of_three (a ∷ (b ∷ (c ∷ []))) l = record { a = a; b = b; c = c; is = refl }
-of_three (a ∷ (b ∷ (c ∷ (d ∷ more)))) l = absurd (omega arith)
-
 -- each label of a triangulation stands in the triple of its triangle
 pub label_stands : (triples : List (List ℤ)) → IsTriangulation triples → (x : ℤ) → IsLabel triples x
     → StandsAt triples x (next triples x) (previous triples x) (triangle_of triples x)
 label_stands triples h x l =
     let g = triangle_at triples h x l in
     let below : triangle_of triples x < length triples = subst (λ (k : ℕ). k < length triples) (sym g.sides.first.triangle) g.sides.below in
-    go below (of_three (get_or triples (triangle_of triples x) []) (h.three_sides (triangle_of triples x) [] below))
+    let (a, b, c, is) = three_listed (get_or triples (triangle_of triples x) []) (h.three_sides (triangle_of triples x) [] below) in
+    let s = stands_at triples a b c (triangle_of triples x) (IsOnce-triangulation triples h) below is in
+    found a b c s (s.sides.only x (omega (arith, counted_once triples h x l)) refl)
   where
     named : (y z : ℤ) → StandsAt triples x y z (triangle_of triples x) → StandsAt triples x (next triples x) (previous triples x) (triangle_of triples x)
     named y z s =
@@ -91,12 +72,6 @@ label_stands triples h x l =
         named a b
         (subst (λ (u : ℤ). StandsAt triples u a b (triangle_of triples x)) (sym e)
         (stands_turned triples b c a (triangle_of triples x) (stands_turned triples a b c (triangle_of triples x) s)))
-
-    go : triangle_of triples x < length triples → IsOfThree (get_or triples (triangle_of triples x) [])
-        → StandsAt triples x (next triples x) (previous triples x) (triangle_of triples x)
-    go below t =
-        let s = stands_at triples t.a t.b t.c (triangle_of triples x) (IsOnce-triangulation triples h) below t.is in
-        found t.a t.b t.c s (s.sides.only x (omega (arith, counted_once triples h x l)) refl)
 
 -- ---- how often a label stands in triples
 

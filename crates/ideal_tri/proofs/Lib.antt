@@ -3,6 +3,9 @@ pub mod Places
 pub mod Counting
 pub mod Sides
 pub mod Reaching
+pub mod Numbering
+pub mod Nearness
+pub mod Components
 pub mod Laying
 pub mod Labels
 pub mod Reduction
@@ -18,7 +21,13 @@ pub mod Flips
 pub mod FlippedTriangulation
 pub mod Turning
 pub mod Merging
-pub mod Spanning
+pub mod Trees
+pub mod Forest
 pub mod Vertices
 pub mod Tables
 pub mod FlippedLayout
+pub mod Hits
+pub mod Bijections
+pub mod InverseImages
+pub mod WrittenImages
+pub mod Relabellings

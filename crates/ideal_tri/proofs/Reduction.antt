@@ -2,10 +2,11 @@
 use Rattle.std.proofs.Common.{ℤ, Bool, cond, List, [], ◌∷◌, ◌++◌, ◌≡◌, ◌≢◌, inl, inr, refl, sym, ◌∙◌, ap, subst, append_assoc, arith, length, length-append}
 use Rattle.std.specs.List.{All}
 use Rattle.std.proofs.lemmas.List.{append-nil}
-use Rattle.std.proofs.lemmas.List.Elements.{All-cons, All-head, All-tail}
+use Rattle.std.proofs.lemmas.List.Elements.{All-nil, All-cons, All-head, All-tail, All-append}
 use Rattle.ideal_tri.specs.Labels.{inverse}
+use Rattle.ideal_tri.specs.Triangulations.{IsLabel}
 use Rattle.ideal_tri.specs.Words.{inverse_word, IsReduced, push, act, reduce, Deletes, DeletesAll, pair, done, more}
-use Rattle.ideal_tri.proofs.Labels.{inverse-inverse, same_or_not, int_eq-same, int_eq-other}
+use Rattle.ideal_tri.proofs.Labels.{inverse-inverse, inverse_label, same_or_not, int_eq-same, int_eq-other}
 
 -- ---- parts of reduced words
 
@@ -150,6 +151,14 @@ inverse_word-inverse_word (x ∷ w) =
 pub length-inverse_word : (w : List ℤ) → length (inverse_word w) ≡ length w
 length-inverse_word [] = refl
 length-inverse_word (x ∷ w) = omega (arith, length-append (inverse_word w) (inverse x ∷ []), length-inverse_word w)
+
+-- the letters of the way back are labels
+pub All-inverse_word : (triples : List (List ℤ)) (w : List ℤ) → All (IsLabel triples) w → All (IsLabel triples) (inverse_word w)
+All-inverse_word triples [] h = h
+All-inverse_word triples (x ∷ w) h =
+    All-append (IsLabel triples) (inverse_word w) (inverse x ∷ [])
+    (All-inverse_word triples w (All-tail (IsLabel triples) x w h))
+    (All-cons (IsLabel triples) (inverse x) [] (inverse_label triples x (All-head (IsLabel triples) x w h)) (All-nil (IsLabel triples)))
 
 pub IsReduced-inverse_word : (w : List ℤ) → IsReduced w → IsReduced (inverse_word w)
 IsReduced-inverse_word [] h = tt

@@ -2,16 +2,16 @@
 use Rattle.std.proofs.Common.{ℕ, ℤ, pos, Bool, true, false, List, [], ◌∷◌, ◌≡◌, ◌≢◌, ◌≤◌, ◌<◌, ◌+◌, ◌*◌, ◌/◌, ◌%◌, suc, zero, refl, sym, ◌∙◌, ap, subst, if◌then◌else◌, arith, length, take, get_or, length-take-le}
 use Rattle.std.specs.List.{All}
 use Rattle.std.specs.Ordering.{int_eq}
-use Rattle.std.proofs.lemmas.Bool.Decides.{Decides-int_eq}
 use Rattle.std.proofs.lemmas.List.{get_or_default, get_or-take}
 use Rattle.std.proofs.lemmas.List.Concat.{get_or-flat_map}
 use Rattle.std.proofs.lemmas.List.Elements.{All-head, All-tail, All-take, All-from_get_or}
 use Rattle.std.proofs.lemmas.List.Folds.{list_any_at, list_any_none}
+use Rattle.ideal_tri.specs.declared.tri.TheConstants.{NOWHERE, TRIANGLES}
 use Rattle.ideal_tri.specs.Labels.{inverse, edge_of}
 use Rattle.ideal_tri.specs.Triangulations.{labels_of, IsLabel, has_side, triangle_of, place_in, side_of, next_in, next}
 use Rattle.ideal_tri.specs.Refusals.{IsDistinct}
-use Rattle.ideal_tri.specs.Places.{key_of, label_at, IsGlued, IsLaidOut}
-use Rattle.ideal_tri.proofs.Labels.{edge_of-inverse}
+use Rattle.ideal_tri.specs.inside.Places.{key_of, label_at, IsGlued, IsLaidOut}
+use Rattle.ideal_tri.proofs.Labels.{int_eq-same, int_eq-other}
 use Rattle.ideal_tri.proofs.Places.{small_label}
 use Rattle.ideal_tri.proofs.Counting.{count, never, length-labels_of, AreAllLabels, all_labels}
 
@@ -44,16 +44,6 @@ apart ts i r j s three distinct b c d order e =
 
 -- ---- within a triple
 
-same_test : (x : ℤ) → int_eq x x ≡ true
-same_test x = (Decides-int_eq x x).1 refl
-
-other_test : (y x : ℤ) → y ≢ x → int_eq y x ≡ false
-other_test y x ne = go (int_eq y x) refl
-  where
-    go : (b : Bool) → int_eq y x ≡ b → int_eq y x ≡ false
-    go true e = absurd (ne ((Decides-int_eq y x).0 e))
-    go false e = e
-
 -- x is side s of the triple
 record IsSide (t : List ℤ) (x : ℤ) (s : ℕ) : Type 0 where
   has : has_side x t ≡ true
@@ -63,14 +53,14 @@ record IsSide (t : List ℤ) (x : ℤ) (s : ℕ) : Type 0 where
 has_not : (t : List ℤ) (x : ℤ) → ((r : ℕ) → r < length t → get_or t r (pos 0) ≢ x) → has_side x t ≡ false
 has_not t x h =
     list_any_none (λ y. int_eq y x) t
-    (All-from_get_or (λ y. int_eq y x ≡ false) t (pos 0) (λ r b. other_test (get_or t r (pos 0)) x (h r b)))
+    (All-from_get_or (λ y. int_eq y x ≡ false) t (pos 0) (λ r b. int_eq-other (get_or t r (pos 0)) x (h r b)))
 
 has_at : (t : List ℤ) (x : ℤ) (s : ℕ) → s < length t → get_or t s (pos 0) ≡ x → has_side x t ≡ true
-has_at t x s b e = list_any_at (λ y. int_eq y x) t s (pos 0) b ((Decides-int_eq (get_or t s (pos 0)) x).1 e)
+has_at t x s b e = list_any_at (λ y. int_eq y x) t s (pos 0) b (int_eq-same (get_or t s (pos 0)) x e)
 
 first_side : (a b c x : ℤ) → a ≡ x → IsSide (a ∷ (b ∷ (c ∷ []))) x 0
 first_side a b c x e =
-    let h : int_eq a x ≡ true = (Decides-int_eq a x).1 e in
+    let h : int_eq a x ≡ true = int_eq-same a x e in
     record {
       has = has_at (a ∷ (b ∷ (c ∷ []))) x 0 (omega arith) e;
       place = ap (λ (v : Bool). if v then 0 else suc (place_in (b ∷ (c ∷ [])) x)) h;
@@ -79,8 +69,8 @@ first_side a b c x e =
 
 second_side : (a b c x : ℤ) → a ≢ x → b ≡ x → IsSide (a ∷ (b ∷ (c ∷ []))) x 1
 second_side a b c x ne e =
-    let g : int_eq a x ≡ false = other_test a x ne in
-    let h : int_eq b x ≡ true = (Decides-int_eq b x).1 e in
+    let g : int_eq a x ≡ false = int_eq-other a x ne in
+    let h : int_eq b x ≡ true = int_eq-same b x e in
     record {
       has = has_at (a ∷ (b ∷ (c ∷ []))) x 1 (omega arith) e;
       place =
@@ -91,9 +81,9 @@ second_side a b c x ne e =
 
 third_side : (a b c x : ℤ) → a ≢ x → b ≢ x → c ≡ x → IsSide (a ∷ (b ∷ (c ∷ []))) x 2
 third_side a b c x ne nf e =
-    let g : int_eq a x ≡ false = other_test a x ne in
-    let h : int_eq b x ≡ false = other_test b x nf in
-    let i : int_eq c x ≡ true = (Decides-int_eq c x).1 e in
+    let g : int_eq a x ≡ false = int_eq-other a x ne in
+    let h : int_eq b x ≡ false = int_eq-other b x nf in
+    let i : int_eq c x ≡ true = int_eq-same c x e in
     record {
       has = has_at (a ∷ (b ∷ (c ∷ []))) x 2 (omega arith) e;
       place =
@@ -160,7 +150,7 @@ pub record IsFound (ts : List (List ℤ)) (places : List ℕ) (x : ℤ) : Type 0
 pub all_there : (ts : List (List ℤ)) (places : List ℕ) → IsGlued ts places → AreAllLabels ts
 all_there ts places h = all_labels ts h.three_sides h.in_range h.placed.distinct
 
-pub taken : (ts : List (List ℤ)) (places : List ℕ) (x : ℤ) → IsGlued ts places → IsLabel ts x → get_or places (key_of x) 0 ≢ 255
+pub taken : (ts : List (List ℤ)) (places : List ℕ) (x : ℤ) → IsGlued ts places → IsLabel ts x → get_or places (key_of x) 0 ≢ NOWHERE
 taken ts places x h b e =
     let all : AreAllLabels ts = all_there ts places h in
     let one : count (labels_of ts) x ≡ 1 = all.once x b in
@@ -189,11 +179,6 @@ pub is_label_at : (ts : List (List ℤ)) (places : List ℕ) (i s : ℕ) → IsG
 is_label_at ts places i s h b c =
     let long : length (labels_of ts) ≡ 3 * length ts = length-labels_of ts h.three_sides in
     subst (IsLabel ts) (label_read ts i s h.three_sides b c) (h.in_range (3 * i + s) (pos 0) (omega arith))
-
-pub is_label-inverse : (ts : List (List ℤ)) (x : ℤ) → IsLabel ts x → IsLabel ts (inverse x)
-is_label-inverse ts x h =
-    let e : edge_of (inverse x) ≡ edge_of x = edge_of-inverse x in
-    omega arith
 
 -- what is read at the key of x
 pub record IsRead (ts : List (List ℤ)) (x : ℤ) (n : ℕ) : Type 0 where
@@ -229,10 +214,10 @@ next_read ts places x h b =
 -- the side after x, read off the array of triples
 pub next_side : (n : ℕ) (sides : List (List ℤ)) (places : List ℕ) (x : ℤ) (i s : ℕ) (d : ℤ) → IsLaidOut n sides places → IsLabel (take n sides) x
     → i ≡ triangle_of (take n sides) x → s ≡ side_of (take n sides) x
-    → (i < 32) × (get_or (get_or sides i []) ((s + 1) % 3) d ≡ next (take n sides) x)
+    → (i < TRIANGLES) × (get_or (get_or sides i []) ((s + 1) % 3) d ≡ next (take n sides) x)
 next_side n sides places x i s d h b e f =
-    let fits : n ≤ 32 = h.fits in
-    let room : length sides ≡ 32 = h.room in
+    let fits : n ≤ TRIANGLES = h.fits in
+    let room : length sides ≡ TRIANGLES = h.room in
     let long : length (take n sides) ≡ n = length-take-le n sides (omega arith) in
     let (within, after) = next_read (take n sides) places x h.glued b in
     let below : i < n = omega arith in
@@ -250,8 +235,8 @@ next_side n sides places x i s d h b e f =
 pub row_labels : (n : ℕ) (sides : List (List ℤ)) (places : List ℕ) (i : ℕ) → IsLaidOut n sides places → i < length (take n sides)
     → All (IsLabel (take n sides)) (get_or sides i [])
 row_labels n sides places i h b =
-    let fits : n ≤ 32 = h.fits in
-    let room : length sides ≡ 32 = h.room in
+    let fits : n ≤ TRIANGLES = h.fits in
+    let room : length sides ≡ TRIANGLES = h.room in
     let long : length (take n sides) ≡ n = length-take-le n sides (omega arith) in
     let row : get_or (take n sides) i [] ≡ get_or sides i [] = get_or-take n sides i [] (omega arith) in
     let three : length (get_or (take n sides) i []) ≡ 3 = h.glued.three_sides i [] b in

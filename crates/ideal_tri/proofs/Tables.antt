@@ -1,13 +1,15 @@
 -- The table of places of a triangulation, and the table after two triangles are changed.
 use Rattle.std.proofs.Common.{ℕ, ℤ, pos, negsuc, List, [], ◌∷◌, ◌≡◌, ◌≢◌, ◌≤◌, ◌<◌, ◌+◌, ◌-◌, ◌*◌, ◌/◌, ◌%◌, suc, zero, ◌⊎◌, inl, inr, refl, sym, ◌∙◌, ap, subst, arith, length, take, set, get_or, replicate}
 use Rattle.std.specs.List.{All}
+use Rattle.std.proofs.lemmas.Bool.{cases_eq}
 use Rattle.std.proofs.lemmas.List.{length-set, get_or-set_same, get_or-set_other, get_or-take, length-take-le, take_all}
 use Rattle.std.proofs.lemmas.Grind.{same_number_lists}
 use Rattle.std.proofs.lemmas.List.Elements.{All-head, All-tail, All-from_get_or}
+use Rattle.ideal_tri.specs.declared.tri.TheConstants.{EDGES, LABELS, NOWHERE}
 use Rattle.ideal_tri.specs.Labels.{edge_of}
 use Rattle.ideal_tri.specs.Triangulations.{labels_of, edge_count, IsLabel, IsTriangulation}
 use Rattle.ideal_tri.specs.Refusals.{IsDistinct, IsOfGoodSize}
-use Rattle.ideal_tri.specs.Places.{key_of, label_at, with_places, places_of, IsPlaced, IsGlued}
+use Rattle.ideal_tri.specs.inside.Places.{key_of, label_at, with_places, places_of, IsPlaced, IsGlued}
 use Rattle.ideal_tri.proofs.Places.{key_below, key_apart, none_placed, next_placed, small_label}
 use Rattle.ideal_tri.proofs.Counting.{count, hit, count-cons, hit_same, lt_or_le, length-labels_of}
 use Rattle.ideal_tri.proofs.Sides.{Stands, stands, IsFound, found, is_label_at}
@@ -15,10 +17,7 @@ use Rattle.ideal_tri.proofs.Triangles.{IsOnce-triangulation, label_of_counted}
 
 -- each is a label of at most 48 edges
 abbrev AreSmall : List ℤ → Type 0
-AreSmall xs = All (λ (x : ℤ). edge_of x < 48) xs
-
-same_number : (m n : ℕ) → (m ≡ n) ⊎ (m ≢ n)
-same_number m n = grind arith
+AreSmall xs = All (λ (x : ℤ). edge_of x < EDGES) xs
 
 -- ---- places written one after another
 
@@ -26,39 +25,39 @@ written-length : (places : List ℕ) (at : ℕ) (xs : List ℤ) → length (with
 written-length places at [] = refl
 written-length places at (x ∷ xs) = written-length (set places (key_of x) at) (at + 1) xs ∙ length-set places (key_of x) at
 
-written-other : (places : List ℕ) (at : ℕ) (xs : List ℤ) (x : ℤ) → edge_of x < 48 → AreSmall xs
+written-other : (places : List ℕ) (at : ℕ) (xs : List ℤ) (x : ℤ) → edge_of x < EDGES → AreSmall xs
     → ((k : ℕ) → k < length xs → get_or xs k (pos 0) ≢ x) → get_or (with_places places at xs) (key_of x) 0 ≡ get_or places (key_of x) 0
 written-other places at [] x h all ne = refl
 written-other places at (y ∷ ys) x h all ne =
-    written-other (set places (key_of y) at) (at + 1) ys x h (All-tail (λ (z : ℤ). edge_of z < 48) y ys all) (λ k b. ne (suc k) (omega arith))
+    written-other (set places (key_of y) at) (at + 1) ys x h (All-tail (λ (z : ℤ). edge_of z < EDGES) y ys all) (λ k b. ne (suc k) (omega arith))
     ∙ get_or-set_other places (key_of y) (key_of x) at 0
-    (λ e. key_apart y x (All-head (λ (z : ℤ). edge_of z < 48) y ys all) h (ne 0 (omega arith)) (sym e))
+    (λ e. key_apart y x (All-head (λ (z : ℤ). edge_of z < EDGES) y ys all) h (ne 0 (omega arith)) (sym e))
 
-written-at : (places : List ℕ) (at : ℕ) (xs : List ℤ) (k : ℕ) → length places ≡ 96 → AreSmall xs → IsDistinct xs → k < length xs
+written-at : (places : List ℕ) (at : ℕ) (xs : List ℤ) (k : ℕ) → length places ≡ LABELS → AreSmall xs → IsDistinct xs → k < length xs
     → get_or (with_places places at xs) (key_of (get_or xs k (pos 0))) 0 ≡ at + k
 written-at places at [] k room all d b = absurd (omega arith)
 written-at places at (y ∷ ys) zero room all d b =
-    let small : edge_of y < 48 = All-head (λ (z : ℤ). edge_of z < 48) y ys all in
-    written-other (set places (key_of y) at) (at + 1) ys y small (All-tail (λ (z : ℤ). edge_of z < 48) y ys all)
+    let small : edge_of y < EDGES = All-head (λ (z : ℤ). edge_of z < EDGES) y ys all in
+    written-other (set places (key_of y) at) (at + 1) ys y small (All-tail (λ (z : ℤ). edge_of z < EDGES) y ys all)
     (λ k c e. d 0 (suc k) (omega arith) (omega arith) (sym e))
     ∙ get_or-set_same places (key_of y) at 0 (omega (arith, key_below y small, room))
     ∙ omega arith
 written-at places at (y ∷ ys) (suc k) room all d b =
-    written-at (set places (key_of y) at) (at + 1) ys k (length-set places (key_of y) at ∙ room) (All-tail (λ (z : ℤ). edge_of z < 48) y ys all)
+    written-at (set places (key_of y) at) (at + 1) ys k (length-set places (key_of y) at ∙ room) (All-tail (λ (z : ℤ). edge_of z < EDGES) y ys all)
     (λ i j a c. d (suc i) (suc j) (omega arith) (omega arith)) (omega arith)
     ∙ omega arith
 
 -- ---- different labels have a table
 
-placed_take : (xs : List ℤ) → AreSmall xs → IsDistinct xs → length xs < 255 → (k : ℕ) → k ≤ length xs
+placed_take : (xs : List ℤ) → AreSmall xs → IsDistinct xs → length xs < NOWHERE → (k : ℕ) → k ≤ length xs
     → IsPlaced (take k xs) (places_of (take k xs))
 unfolding places_of
-placed_take xs all d few zero h = none_placed (replicate 96 255) refl
+placed_take xs all d few zero h = none_placed (replicate LABELS NOWHERE) refl
 placed_take xs all d few (suc k) h =
     let before : IsPlaced (take k xs) (places_of (take k xs)) = placed_take xs all d few k (omega arith) in
-    let small : edge_of (get_or xs k (pos 0)) < 48 = all k (pos 0) (omega arith) in
-    let free : get_or (places_of (take k xs)) (key_of (get_or xs k (pos 0))) 0 ≡ 255 =
-    elim (same_number (get_or (places_of (take k xs)) (key_of (get_or xs k (pos 0))) 0) 255) [
+    let small : edge_of (get_or xs k (pos 0)) < EDGES = all k (pos 0) (omega arith) in
+    let free : get_or (places_of (take k xs)) (key_of (get_or xs k (pos 0))) 0 ≡ NOWHERE =
+    elim (cases_eq (get_or (places_of (take k xs)) (key_of (get_or xs k (pos 0))) 0) NOWHERE) [
       | inl e ↦ e
       | inr ne ↦
           (let (within, is) = before.used (get_or xs k (pos 0)) small ne in
@@ -73,7 +72,7 @@ placed_take xs all d few (suc k) h =
     subst (λ (n : ℕ). IsPlaced (take n xs) (places_of (take n xs))) next
     (subst (λ (z : List ℕ). IsPlaced (take (k + 1) xs) z) more.table more)
 
-placed : (xs : List ℤ) → AreSmall xs → IsDistinct xs → length xs < 255 → IsPlaced xs (places_of xs)
+placed : (xs : List ℤ) → AreSmall xs → IsDistinct xs → length xs < NOWHERE → IsPlaced xs (places_of xs)
 placed xs all d few =
     subst (λ (z : List ℤ). IsPlaced z (places_of z)) (take_all (length xs) xs (omega arith)) (placed_take xs all d few (length xs) (omega arith))
 
@@ -101,14 +100,14 @@ glued ts h size =
     let within : All (IsLabel ts) (labels_of ts) =
     All-from_get_or (IsLabel ts) (labels_of ts) (pos 0)
     (λ k b. label_of_counted ts h (get_or (labels_of ts) k (pos 0)) (count_there (labels_of ts) k b)) in
-    let few : edge_count ts < 49 = size.few in
+    let few : edge_count ts ≤ EDGES = size.few in
     let long : length (labels_of ts) ≡ 3 * length ts = length-labels_of ts h.three_sides in
     record {
       size = size;
       three_sides = h.three_sides;
       in_range = within;
       placed = placed (labels_of ts)
-          (All-from_get_or (λ (x : ℤ). edge_of x < 48) (labels_of ts) (pos 0)
+          (All-from_get_or (λ (x : ℤ). edge_of x < EDGES) (labels_of ts) (pos 0)
           (λ k b. small_label ts (get_or (labels_of ts) k (pos 0)) size (within k (pos 0) b)))
           (distinct_of_counts (labels_of ts) (λ x. (IsOnce-triangulation ts h).once x)) (omega arith);
     }
@@ -124,10 +123,10 @@ at_place ts places t s h b c =
     let side : get_or places (key_of (label_at ts t s)) 0 % 3 ≡ s = sym here.stands.side ∙ there.side in
     omega arith
 
-at_no_label : (ts : List (List ℤ)) (places : List ℕ) (x : ℤ) → IsGlued ts places → edge_of x < 48 → edge_count ts ≤ edge_of x
-    → get_or places (key_of x) 0 ≡ 255
+at_no_label : (ts : List (List ℤ)) (places : List ℕ) (x : ℤ) → IsGlued ts places → edge_of x < EDGES → edge_count ts ≤ edge_of x
+    → get_or places (key_of x) 0 ≡ NOWHERE
 at_no_label ts places x h small b =
-    elim (same_number (get_or places (key_of x) 0) 255) [
+    elim (cases_eq (get_or places (key_of x) 0) NOWHERE) [
       | inl e ↦ e
       | inr ne ↦
           (let (within, is) = h.placed.used x small ne in
@@ -138,14 +137,14 @@ at_no_label ts places x h small b =
 -- each key is that of a label
 record HasKey (k : ℕ) : Type 0 where
   label : ℤ
-  small : edge_of label < 48
+  small : edge_of label < EDGES
   key : key_of label ≡ k
 
-has_key : (k : ℕ) → k < 96 → HasKey k
+has_key : (k : ℕ) → k < LABELS → HasKey k
 has_key k h =
-    elim (lt_or_le k 48) [
+    elim (lt_or_le k EDGES) [
       | inl b ↦ record { label = negsuc (47 - k); small = omega arith; key = omega arith }
-      | inr b ↦ record { label = pos (k - 48); small = omega arith; key = omega arith }
+      | inr b ↦ record { label = pos (k - EDGES); small = omega arith; key = omega arith }
     ]
 
 -- ---- one triangle of a triangulation with its table
@@ -153,7 +152,7 @@ has_key k h =
 row_small : (ts : List (List ℤ)) (places : List ℕ) (t : ℕ) → IsGlued ts places → t < length ts → AreSmall (get_or ts t [])
 row_small ts places t h b =
     let three : length (get_or ts t []) ≡ 3 = h.three_sides t [] b in
-    All-from_get_or (λ (x : ℤ). edge_of x < 48) (get_or ts t []) (pos 0)
+    All-from_get_or (λ (x : ℤ). edge_of x < EDGES) (get_or ts t []) (pos 0)
     (λ s c. small_label ts (label_at ts t s) h.size (is_label_at ts places t s h b (omega arith)))
 
 row_distinct : (ts : List (List ℤ)) (places : List ℕ) (t : ℕ) → IsGlued ts places → t < length ts → IsDistinct (get_or ts t [])
@@ -187,7 +186,7 @@ abbrev rewritten : List (List ℤ) → List ℕ → ℕ → ℕ → List ℕ
 rewritten us places i j = with_places (with_places places (3 * i) (get_or us i [])) (3 * j) (get_or us j [])
 
 -- a label that is no side of the two
-at_outside : (us : List (List ℤ)) (places after : List ℕ) (i j : ℕ) → IsGlued us after → i < length us → j < length us → (x : ℤ) → edge_of x < 48
+at_outside : (us : List (List ℤ)) (places after : List ℕ) (i j : ℕ) → IsGlued us after → i < length us → j < length us → (x : ℤ) → edge_of x < EDGES
     → ((k : ℕ) → k < length (get_or us i []) → get_or (get_or us i []) k (pos 0) ≢ x)
     → ((k : ℕ) → k < length (get_or us j []) → get_or (get_or us j []) k (pos 0) ≢ x)
     → get_or (rewritten us places i j) (key_of x) 0 ≡ get_or places (key_of x) 0
@@ -198,14 +197,14 @@ at_outside us places after i j h first second x small not_i not_j =
 at_label : (ts us : List (List ℤ)) (places after : List ℕ) (i j : ℕ) → IsGlued ts places → IsGlued us after → AreChanged ts us i j → (t s : ℕ)
     → t < length us → s < 3 → get_or (rewritten us places i j) (key_of (label_at us t s)) 0 ≡ 3 * t + s
 at_label ts us places after i j g h change t s b c =
-    elim (same_number t j) [
+    elim (cases_eq t j) [
       | inl at_j ↦
           subst (λ (n : ℕ). get_or (rewritten us places i j) (key_of (label_at us n s)) 0 ≡ 3 * n + s) (sym at_j)
           (written-at (with_places places (3 * i) (get_or us i [])) (3 * j) (get_or us j []) s
           (written-length places (3 * i) (get_or us i []) ∙ g.placed.room) (row_small us after j h change.second)
           (row_distinct us after j h change.second) (subst (λ (n : ℕ). s < n) (sym (h.three_sides j [] change.second)) c))
       | inr not_j ↦
-          elim (same_number t i) [
+          elim (cases_eq t i) [
             | inl at_i ↦
                 subst (λ (n : ℕ). get_or (rewritten us places i j) (key_of (label_at us n s)) 0 ≡ 3 * n + s) (sym at_i)
                 (written-other (with_places places (3 * i) (get_or us i [])) (3 * j) (get_or us j []) (label_at us i s)
@@ -227,7 +226,7 @@ at_label ts us places after i j g h change t s b c =
     there n d = stands us (label_at us n s) n s h.three_sides h.placed.distinct d c refl
 
 at_key : (ts us : List (List ℤ)) (places after : List ℕ) (i j : ℕ) → IsGlued ts places → IsGlued us after → AreChanged ts us i j → (x : ℤ)
-    → edge_of x < 48 → get_or (rewritten us places i j) (key_of x) 0 ≡ get_or after (key_of x) 0
+    → edge_of x < EDGES → get_or (rewritten us places i j) (key_of x) 0 ≡ get_or after (key_of x) 0
 at_key ts us places after i j g h change x small =
     elim (lt_or_le (edge_of x) (edge_count us)) [
       | inl label ↦
@@ -258,7 +257,7 @@ changed_table ts us places after i j g h change =
     let key : HasKey k = has_key k (omega (arith, long)) in
     subst (λ (n : ℕ). get_or (rewritten us places i j) n 0 ≡ get_or after n 0) key.key (at_key ts us places after i j g h change key.label key.small))
   where
-    long : length (rewritten us places i j) ≡ 96
+    long : length (rewritten us places i j) ≡ LABELS
     long =
         written-length (with_places places (3 * i) (get_or us i [])) (3 * j) (get_or us j []) ∙ written-length places (3 * i) (get_or us i [])
         ∙ g.placed.room

@@ -1,5 +1,5 @@
 -- Each label of a triangulation stands at one place, and next runs round its triangle.
-use Rattle.std.proofs.Common.{ℕ, ℤ, suc, Bool, ◌||◌, true, false, cond, List, [], ◌∷◌, ◌++◌, ◌≡◌, ◌≢◌, ◌≤◌, ◌<◌, ◌+◌, ◌⊎◌, inl, inr, refl, sym, ◌∙◌, ap, subst, arith, length}
+use Rattle.std.proofs.Common.{ℕ, zero, ℤ, suc, Bool, ◌||◌, true, false, cond, List, [], ◌∷◌, ◌++◌, ◌≡◌, ◌≢◌, ◌≤◌, ◌<◌, ◌+◌, ◌⊎◌, inl, inr, refl, sym, ◌∙◌, ap, subst, arith, length, get_or}
 use Rattle.std.specs.List.{All, Contains, count_by}
 use Rattle.std.specs.Ordering.{int_eq}
 use Rattle.std.proofs.lemmas.Bool.{cases_Bool, cases_lt, false≢true, lt-ltb, le-ltb}
@@ -46,7 +46,7 @@ times_of_side x (y ∷ ys) h =
     ]
 
 -- and one that hasn't does not
-times_of_no_side : (x : ℤ) (t : List ℤ) → has_side x t ≡ false → times x t ≡ 0
+pub times_of_no_side : (x : ℤ) (t : List ℤ) → has_side x t ≡ false → times x t ≡ 0
 times_of_no_side x [] h = refl
 times_of_no_side x (y ∷ ys) h =
     elim (same_or_not y x) [
@@ -283,6 +283,29 @@ triangle_of_label (t ∷ rest) three h x counted =
           (omega (arith, times-append x t (labels_of rest), times_of_no_side x t s)))
     ]
 
+-- ---- the triangle with a given number
+
+times_of_contained : (x : ℤ) (xs : List ℤ) → Contains xs x → 0 < times x xs
+times_of_contained x [] (k, below, is) = absurd (omega arith)
+times_of_contained x (y ∷ ys) (zero, below, is) = omega (arith, times_here x y ys is)
+times_of_contained x (y ∷ ys) (suc k, below, is) =
+    omega (arith, times-cons x y ys, times_of_contained x ys (k, omega arith, is))
+
+-- its sides are counted, and it is their triangle
+numbered : (triples : List (List ℤ)) → IsOnce triples → (t : ℕ) (x : ℤ) → t < length triples
+    → 0 < times x (get_or triples t []) → (0 < times x (labels_of triples)) × (triangle_of triples x ≡ t)
+numbered [] h t x below c = absurd (omega arith)
+numbered (u ∷ rest) h zero x below c =
+    elim (cases_Bool (has_side x u)) [
+      | inl s ↦ (omega (arith, times-append x u (labels_of rest)), ap (λ (b : Bool). cond b 0 (suc (triangle_of rest x))) s)
+      | inr s ↦ absurd (omega (arith, times_of_no_side x u s))
+    ]
+numbered (u ∷ rest) h (suc t) x below c =
+    let (counted, is) = numbered rest (IsOnce-tail u rest h) t x (omega arith) c in (
+      omega (arith, times-append x u (labels_of rest)),
+      ap (λ (b : Bool). cond b 0 (suc (triangle_of rest x))) (not_first u rest x h counted) ∙ ap suc is,
+    )
+
 -- ---- triangulations
 
 pub counted_once : (triples : List (List ℤ)) → IsTriangulation triples → (x : ℤ) → IsLabel triples x → times x (labels_of triples) ≡ 1
@@ -323,6 +346,8 @@ pub triangle_laws : (triples : List (List ℤ)) → IsTriangulation triples → 
 triangle_laws triples h = record {
   triangle = λ x l. let g = triangle_at triples h x l in
       subst (λ (k : ℕ). k < length triples) (sym g.sides.first.triangle) g.sides.below;
+  listed = λ t x below here. let (counted, is) = numbered triples (IsOnce-triangulation triples h) t x below (times_of_contained x _ here) in
+      (label_of_counted triples h x counted, is);
   label = λ x l. let g = triangle_at triples h x l in
       subst (IsLabel triples) (sym g.sides.first.after) (label_of_counted triples h g.second g.sides.second.counted);
   round = λ x l. let g = triangle_at triples h x l in

@@ -10,18 +10,22 @@ use Rattle.std.proofs.lemmas.List.Elements.{All-from_get_or, All-filter}
 use Rattle.std.proofs.lemmas.List.FromFn.{length-map-range_with_len, get_or-map-range_with_len, filter_of_map_range_with_len_more}
 use Rattle.std.proofs.lemmas.List.Sums.{sum_by-cons, length-filter, count_by-le-length, position_or_len_is}
 use Rattle.ideal_tri.specs.Labels.{edge_of}
-use Rattle.ideal_tri.specs.Triangulations.{IsLabel, IsTriangulation, edge_count, previous}
+use Rattle.ideal_tri.specs.Triangulations.{IsLabel, IsReached, IsTriangulation, edge_count, triangle_of, previous}
+use Rattle.ideal_tri.specs.Components.{least_triangle, component_count}
 use Rattle.ideal_tri.specs.Refusals.{IsDistinct}
 use Rattle.ideal_tri.specs.SurfaceLaws.{TriangleLaws}
 use Rattle.ideal_tri.specs.Vertices.{rank, label_of_rank, ordered_labels, corner_step, IsSameVertex, least_corner, first_corners, first_corners_below, vertex_of, vertex_count}
-use Rattle.ideal_tri.specs.VertexLaws.{VertexLaws, PunctureLaws}
+use Rattle.ideal_tri.specs.VertexLaws.{PunctureLaws, VertexLaws}
 use Rattle.ideal_tri.proofs.Labels.{int_eq-same, int_eq-other}
 use Rattle.ideal_tri.proofs.Counting.{at_most_once}
-use Rattle.ideal_tri.proofs.Triangles.{times, triangle_laws}
+use Rattle.ideal_tri.proofs.Triangles.{times, label_of_counted, triangle_laws}
+use Rattle.ideal_tri.proofs.Triples.{HasTriple, triple_at}
 use Rattle.ideal_tri.proofs.Reaching.{unmarked}
 use Rattle.ideal_tri.proofs.Turning.{rank-label_of_rank, label_of_rank-rank, rank-injective, rank_below, label_below, least_corner_there, least_corner_least, least_corner_label, least_corner_same, same_vertex_of_least, least_corner_own}
-use Rattle.ideal_tri.proofs.Merging.{merged, merged_keeps, merged_joins, connected_names}
-use Rattle.ideal_tri.proofs.Spanning.{IsVertexwise, IsJoined, joined_inverse, Spanning, spanning}
+use Rattle.ideal_tri.proofs.Merging.{merged, merged_keeps, merged_joins, IsNamed, names_of_parts}
+use Rattle.ideal_tri.proofs.Components.{is_first_triangle, least_triangle_below, least_triangle_there, least_is_first}
+use Rattle.ideal_tri.proofs.Trees.{IsVertexwise, IsJoined, joined_inverse}
+use Rattle.ideal_tri.proofs.Forest.{Forest, forest}
 
 -- ---- the first corners in their order
 
@@ -213,11 +217,11 @@ open_sides_has (false ∷ marks) e (suc k) n b free is =
     let (i, c, at) = open_sides_has marks (suc e) k n (omega arith) free (omega arith) in
     (suc i, omega arith, at)
 
--- the names of the corners, joined along the edges that a tree of triangles does not cross
-abbrev names : (ts : List (List ℤ)) → Spanning ts → ℤ → ℤ
+-- the names of the corners, joined along the edges that no tree of triangles crosses
+abbrev names : (ts : List (List ℤ)) → Forest ts → ℤ → ℤ
 names ts s = merged (previous ts) (least_corner ts) (open_sides s.tree 0)
 
-names_turn : (ts : List (List ℤ)) → TriangleLaws ts → (s : Spanning ts) → IsVertexwise ts (names ts s)
+names_turn : (ts : List (List ℤ)) → TriangleLaws ts → (s : Forest ts) → IsVertexwise ts (names ts s)
 names_turn ts h s = record {
   turns = λ x l.
       sym
@@ -225,14 +229,14 @@ names_turn ts h s = record {
       (least_corner_same ts h x (corner_step ts x) l (record { steps = 1; reached = refl })));
 }
 
-edge_joined : (ts : List (List ℤ)) → (s : Spanning ts) → (n : ℕ) → n < edge_count ts → get_or s.tree n false ≡ false → IsJoined ts (names ts s) (pos n)
+edge_joined : (ts : List (List ℤ)) → (s : Forest ts) → (n : ℕ) → n < edge_count ts → get_or s.tree n false ≡ false → IsJoined ts (names ts s) (pos n)
 edge_joined ts s n below free = there (open_sides_has s.tree 0 n n (omega (arith, s.sides)) free (omega arith))
   where
     there : (i : ℕ) × (i < length (open_sides s.tree 0)) × (get_or (open_sides s.tree 0) i (pos 0) ≡ pos n) → IsJoined ts (names ts s) (pos n)
     there (i, b, at) =
         subst (IsJoined ts (names ts s)) at (merged_joins (previous ts) (least_corner ts) (open_sides s.tree 0) i (pos 0) b)
 
-names_joined : (ts : List (List ℤ)) → TriangleLaws ts → (s : Spanning ts) → (x : ℤ) → IsLabel ts x → get_or s.tree (edge_of x) false ≡ false
+names_joined : (ts : List (List ℤ)) → TriangleLaws ts → (s : Forest ts) → (x : ℤ) → IsLabel ts x → get_or s.tree (edge_of x) false ≡ false
     → IsJoined ts (names ts s) x
 names_joined ts h s (pos n) l free = edge_joined ts s n l free
 names_joined ts h s (negsuc n) l free = joined_inverse ts h (names ts s) (names_turn ts h s) (pos n) l (edge_joined ts s n l free)
@@ -250,31 +254,67 @@ ordered_once ts c = at_most_once (ordered_labels ts) c apart
         let same : label_of_rank i ≡ label_of_rank j = sym (at i (omega arith)) ∙ e ∙ at j (omega arith) in
         omega (arith, rank-label_of_rank i, rank-label_of_rank j, ap rank same)
 
-names_one : (ts : List (List ℤ)) → TriangleLaws ts → (s : Spanning ts) → 0 < edge_count ts
-    → All (λ x. names ts s x ≡ names ts s (pos 0)) (ordered_labels ts)
-names_one ts h s some =
-    All-from_get_or (λ x. names ts s x ≡ names ts s (pos 0)) (ordered_labels ts) (pos 0) (λ k b.
+-- a side of triangle t
+abbrev side_at : List (List ℤ) → ℕ → ℤ
+side_at ts t = get_or (get_or ts t []) 0 (pos 0)
+
+record IsSideAt (ts : List (List ℤ)) (t : ℕ) : Type 0 where
+  label : IsLabel ts (side_at ts t)
+  triangle : triangle_of ts (side_at ts t) ≡ t
+
+side_there : (ts : List (List ℤ)) → IsTriangulation ts → (t : ℕ) → t < length ts → IsSideAt ts t
+side_there ts sound t b =
+    let g : HasTriple ts t = triple_at ts sound t b in
+    let is : side_at ts t ≡ g.first = ap (λ (u : List ℤ). get_or u 0 (pos 0)) g.is in
+    record {
+      label = subst (IsLabel ts) (sym is) (label_of_counted ts sound g.first g.sides.first.counted);
+      triangle = ap (triangle_of ts) is ∙ g.sides.first.triangle;
+    }
+
+-- each corner has the name of a side of the least triangle of its component
+names_of_component : (ts : List (List ℤ)) → TriangleLaws ts → IsTriangulation ts → (s : Forest ts)
+    → All (IsNamed (names ts s) (is_first_triangle ts) (λ t. names ts s (side_at ts t)) (length ts) (λ x. least_triangle ts (triangle_of ts x)))
+    (ordered_labels ts)
+names_of_component ts h sound s =
+    All-from_get_or
+    (IsNamed (names ts s) (is_first_triangle ts) (λ t. names ts s (side_at ts t)) (length ts) (λ x. least_triangle ts (triangle_of ts x)))
+    (ordered_labels ts) (pos 0) (λ k b.
     let below : k < 2 * edge_count ts = omega (arith, length-map-range_with_len label_of_rank 0 (2 * edge_count ts)) in
     let at : get_or (ordered_labels ts) k (pos 0) ≡ label_of_rank k =
     get_or-map-range_with_len label_of_rank 0 (2 * edge_count ts) k k (pos 0) below (omega arith) in
-    ap (names ts s) at
-    ∙ s.joins (names ts s) (names_turn ts h s) (names_joined ts h s) (label_of_rank k) (pos 0) (label_below k (edge_count ts) below) some)
-
-vertex_bound : (ts : List (List ℤ)) → TriangleLaws ts → IsTriangulation ts → vertex_count ts + length ts ≤ edge_count ts + 2
-vertex_bound ts h t = go (spanning ts h t)
+    subst
+    (IsNamed (names ts s) (is_first_triangle ts) (λ t. names ts s (side_at ts t)) (length ts) (λ x. least_triangle ts (triangle_of ts x)))
+    (sym at) (named (label_of_rank k) (label_below k (edge_count ts) below)))
   where
-    go : Spanning ts → vertex_count ts + length ts ≤ edge_count ts + 2
+    named : (x : ℤ) → IsLabel ts x
+        → IsNamed (names ts s) (is_first_triangle ts) (λ t. names ts s (side_at ts t)) (length ts) (λ y. least_triangle ts (triangle_of ts y)) x
+    named x l =
+        let t : ℕ = triangle_of ts x in
+        let within : triangle_of ts x < length ts = h.triangle x l in
+        let first : least_triangle ts t < length ts = least_triangle_below ts sound t within in
+        let side : IsSideAt ts (least_triangle ts t) = side_there ts sound (least_triangle ts t) first in
+        record {
+          below = first;
+          numbered = least_is_first ts sound t within;
+          name =
+              s.joins (names ts s) (names_turn ts h s) (names_joined ts h s) x (side_at ts (least_triangle ts t)) l side.label
+              (subst (IsReached ts t) (sym side.triangle) (least_triangle_there ts sound t within));
+        }
+
+vertex_bound : (ts : List (List ℤ)) → TriangleLaws ts → IsTriangulation ts → vertex_count ts + length ts ≤ edge_count ts + 2 * component_count ts
+vertex_bound ts h sound = go (forest ts sound)
+  where
+    go : Forest ts → vertex_count ts + length ts ≤ edge_count ts + 2 * component_count ts
     go s =
-        let some : 0 < edge_count ts = omega (arith, t.some, t.edges) in
-        let few : count_by (is_first ts) (ordered_labels ts) ≤ length (open_sides s.tree 0) + 1 =
-        connected_names (previous ts) (least_corner ts) (open_sides s.tree 0) (ordered_labels ts) (names ts s (pos 0)) (ordered_once ts)
-        (names_one ts h s some) in
+        let few : count_by (is_first ts) (ordered_labels ts) ≤ length (open_sides s.tree 0) + component_count ts =
+        names_of_parts (previous ts) (least_corner ts) (open_sides s.tree 0) (ordered_labels ts) (is_first_triangle ts)
+        (λ t. names ts s (side_at ts t)) (length ts) (λ x. least_triangle ts (triangle_of ts x)) (ordered_once ts) (names_of_component ts h sound s) in
         omega (arith, few, s.few, open_sides-length s.tree 0, length-filter (is_first ts) (ordered_labels ts))
 
 -- ---- the laws
 
-vertex_laws_of : (ts : List (List ℤ)) → TriangleLaws ts → IsTriangulation ts → VertexLaws ts
-vertex_laws_of ts h t = record {
+puncture_laws : (ts : List (List ℤ)) → TriangleLaws ts → IsTriangulation ts → PunctureLaws ts
+puncture_laws ts h t = record {
   same = vertex_same ts h;
   within = vertex_within ts h;
   there = λ x l. least_corner_there ts x;
@@ -283,5 +323,5 @@ vertex_laws_of ts h t = record {
   bound = vertex_bound ts h t;
 }
 
-pub puncture_laws : PunctureLaws
-puncture_laws = record { vertices = λ ts t. vertex_laws_of ts (triangle_laws ts t) t }
+pub vertex_laws : VertexLaws
+vertex_laws = record { vertices = λ ts t. puncture_laws ts (triangle_laws ts t) t }

@@ -2,7 +2,7 @@
 use Rattle.std.proofs.Common.{ℕ, ℤ, List, [], ◌∷◌, ◌++◌, ◌≡◌, inl, inr, refl, sym, ◌∙◌, ap, subst}
 use Rattle.ideal_tri.specs.Labels.{inverse}
 use Rattle.ideal_tri.specs.Words.{inverse_word, push, act, reduce}
-use Rattle.ideal_tri.specs.Triangulations.{IsLabel, IsWalk, triangle_of}
+use Rattle.ideal_tri.specs.Triangulations.{IsLabel, IsWalk, IsReached, triangle_of}
 use Rattle.ideal_tri.specs.SurfaceLaws.{WalkLaws}
 use Rattle.ideal_tri.proofs.Labels.{inverse-inverse, inverse_label, same_or_not}
 use Rattle.ideal_tri.proofs.Reduction.{push-cancels, push-goes_on}
@@ -37,6 +37,24 @@ pub walk-reduce : (triples : List (List ℤ)) (s t : ℕ) (w : List ℤ) → IsW
 walk-reduce triples s t [] h = h
 walk-reduce triples s t (x ∷ w) h =
     walk-push triples s t x (act w []) h.0 h.1 (walk-reduce triples (triangle_of triples (inverse x)) t w h.2)
+
+-- ---- triangles that a walk joins
+
+pub reached_here : (triples : List (List ℤ)) (s t : ℕ) → s ≡ t → IsReached triples s t
+reached_here triples s t e = record { letters = []; walk = e }
+
+pub reached_step : (triples : List (List ℤ)) (x : ℤ) → IsLabel triples x
+    → IsReached triples (triangle_of triples x) (triangle_of triples (inverse x))
+reached_step triples x l = record { letters = x ∷ []; walk = (l, refl, refl) }
+
+pub reached_along : (triples : List (List ℤ)) (r s t : ℕ) → IsReached triples r s → IsReached triples s t → IsReached triples r t
+reached_along triples r s t u v = record {
+  letters = u.letters ++ v.letters;
+  walk = walks_join triples r s t u.letters v.letters u.walk v.walk;
+}
+
+pub reached_back : (triples : List (List ℤ)) (s t : ℕ) → IsReached triples s t → IsReached triples t s
+reached_back triples s t u = record { letters = inverse_word u.letters; walk = walk_back triples s t u.letters u.walk }
 
 -- ---- the laws
 

@@ -1,7 +1,7 @@
 -- What holds of the flip of an edge.
-use Rattle.std.specs.Prelude.{◌≡◌, ◌≢◌, ℤ, List, [], ◌∷◌}
+use Rattle.std.specs.Prelude.{◌≡◌, ◌≢◌, ℕ, ℤ, List, [], ◌∷◌}
 use Rattle.ideal_tri.specs.Labels.{inverse}
-use Rattle.ideal_tri.specs.Triangulations.{IsTriangulation, IsLabel, edge_count, triangle_of, next, previous}
+use Rattle.ideal_tri.specs.Triangulations.{IsTriangulation, IsConnected, IsLabel, IsReached, edge_count, triangle_of, next, previous}
 use Rattle.ideal_tri.specs.Flips.{IsFlippable, flipped}
 use Rattle.ideal_tri.specs.Refusals.{IsDistinct}
 
@@ -17,9 +17,12 @@ IsOutside triples e x =
     × (x ≢ inverse e) × (x ≢ next triples (inverse e)) × (x ≢ previous triples (inverse e))
 
 -- one flip: (e,a,b) and (~e,c,d) become (e,d,a) and (~e,b,c)
-pub record FlipLaws (triples : List (List ℤ)) (e : ℤ) : Type 0 where
+pub record OneFlipLaws (triples : List (List ℤ)) (e : ℤ) : Type 0 where
   pub triangulation : IsTriangulation (flipped triples e)
   pub edges : edge_count (flipped triples e) ≡ edge_count triples
+  -- what a walk joins stays joined
+  pub reached : (s t : ℕ) → IsReached triples s t → IsReached (flipped triples e) s t
+  pub connected : IsConnected triples → IsConnected (flipped triples e)
   pub other_side : flipped triples (inverse e) ≡ flipped triples e
   pub different : IsDistinct (quadrilateral triples e)
   pub after_e : next (flipped triples e) e ≡ previous triples (inverse e)
@@ -35,5 +38,5 @@ pub record FlipLaws (triples : List (List ℤ)) (e : ℤ) : Type 0 where
       → triangle_of (flipped triples e) x ≡ triangle_of triples x
 
 -- for every flippable label of a triangulation
-pub record QuadrilateralLaws : Type 0 where
-  pub flips : (triples : List (List ℤ)) (e : ℤ) → IsTriangulation triples → IsLabel triples e → IsFlippable triples e → FlipLaws triples e
+pub record FlipLaws : Type 0 where
+  pub flips : (triples : List (List ℤ)) (e : ℤ) → IsTriangulation triples → IsLabel triples e → IsFlippable triples e → OneFlipLaws triples e

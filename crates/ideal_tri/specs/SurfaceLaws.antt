@@ -1,5 +1,5 @@
 -- What holds of triangulations, of walks on them, and of the drawings of a vector.
-use Rattle.std.specs.Prelude.{◌≡◌, ◌≢◌, ◌<◌, ◌+◌, ◌⊎◌, ◌++◌, ℕ, ℤ, List, length, slice_index, All}
+use Rattle.std.specs.Prelude.{◌≡◌, ◌≢◌, ◌<◌, ◌+◌, ◌⊎◌, ◌++◌, ℕ, ℤ, List, [], length, slice_index, slice_index_or, All, Contains}
 use Rattle.ideal_tri.specs.Words.{inverse_word, reduce, IsCyclicallyReduced}
 use Rattle.ideal_tri.specs.Curves.{crossings}
 use Rattle.ideal_tri.specs.Triangulations.{IsLabel, IsTriangulation, IsWalk, edge_count, triangle_of, next, previous}
@@ -9,6 +9,9 @@ use Rattle.ideal_tri.specs.Strands.{State, IsDrawing, words_of}
 -- next runs round the three sides of a triangle
 pub record TriangleLaws (triples : List (List ℤ)) : Type 0 where
   pub triangle : (x : ℤ) → IsLabel triples x → triangle_of triples x < length triples
+  -- the sides of the triangle with the number t are labels, and t is their triangle
+  pub listed : (t : ℕ) (x : ℤ) → t < length triples → Contains (slice_index_or triples t []) x
+      → IsLabel triples x × (triangle_of triples x ≡ t)
   pub label : (x : ℤ) → IsLabel triples x → IsLabel triples (next triples x)
   pub round : (x : ℤ) → IsLabel triples x → next triples (previous triples x) ≡ x
   pub moves : (x : ℤ) → IsLabel triples x → (next triples x ≢ x) × (previous triples x ≢ x)

@@ -4,6 +4,7 @@ use Rattle.std.specs.List.{range_with_len}
 use Rattle.std.specs.Ordering.{int_eq}
 use Rattle.ideal_tri.specs.Labels.{inverse}
 use Rattle.ideal_tri.specs.Triangulations.{edge_count, next}
+use Rattle.ideal_tri.specs.Components.{component_count}
 
 -- ---- the order of labels: 0, -1, 1, -2, 2 and so on
 
@@ -64,6 +65,7 @@ vertex_of triples x = unwrap_or (position (λ y. int_eq y (least_corner triples 
 abbrev pub vertex_count : List (List ℤ) → ℕ
 vertex_count triples = length (first_corners triples)
 
--- from the Euler characteristic of the closed surface: vertices - edges + triangles = 2 - 2 genus
+-- the sum of the components' genera, from the Euler characteristic of the closed surface with C components:
+-- vertices - edges + triangles = 2 C - 2 genus
 abbrev pub genus : List (List ℤ) → ℕ
-genus triples = (2 + edge_count triples - length triples - vertex_count triples) / 2
+genus triples = (2 * component_count triples + edge_count triples - length triples - vertex_count triples) / 2

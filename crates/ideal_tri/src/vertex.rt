@@ -3,6 +3,7 @@
 //! The corner named `x` lies at the head of the side `x`, between `x` and the side after it. Labels are ordered 0, -1, 1,
 //! -2, 2 and so on; each vertex is named by its least corner, and vertices are numbered in the order of these.
 ghost use Rattle.std.specs.Prelude.{◌≡◌, ◌<◌, ◌≤◌, ◌*◌, length};
+ghost use Rattle.ideal_tri.specs.declared.tri.TheConstants.{EDGES, LABELS};
 ghost use Rattle.ideal_tri.specs.Labels.{edge_of};
 ghost use Rattle.ideal_tri.specs.Triangulations.{IsLabel, IsTriangulation, edge_count};
 ghost use Rattle.ideal_tri.specs.Refusals.{IsOfGoodSize};
@@ -47,26 +48,27 @@ impl Tri {
         VertexId(first_corners(self, rank(first)))
     }
 
-    /// How many vertices there are, from 1 to two more than half of the triangles.
+    /// How many vertices there are: at least one for each component, and at most two more than half of its triangles.
     pub fn vertex_count(&self) -> u32
         ensures { result ≡ vertex_count self.now }
     {
         first_corners(self, 2 * self.edges())
     }
 
-    /// The genus of the surface with its punctures filled in, from its Euler characteristic:
-    /// vertices - edges + triangles = 2 - 2 genus.
+    /// The genus of the surface with its punctures filled in, the sum of the genera of its components. It comes from the
+    /// Euler characteristic: vertices - edges + triangles = 2 components - 2 genus.
     pub fn genus(&self) -> u32
         ensures { result ≡ genus self.now }
     {
         vertex_laws();
-        (2 + self.edges() - self.triangles() - self.vertex_count()) / 2
+        let edges = self.edges();
+        (2 * self.components() + edges - self.triangles() - self.vertex_count()) / 2
     }
 }
 
 // The place of a label in the order of labels.
 fn rank(x: Label) -> u32
-    requires { edge_of x < 48 }
+    requires { edge_of x < EDGES }
     ensures { result ≡ rank x }
 {
     let first = 2 * x.edge();
@@ -75,7 +77,7 @@ fn rank(x: Label) -> u32
 
 // The label at a place in their order.
 fn label_of_rank(k: u32) -> Label
-    requires { k < 96 }
+    requires { k < LABELS }
     ensures { result ≡ label_of_rank k }
 {
     let first = Label::new((k / 2) as i32);
@@ -84,7 +86,7 @@ fn label_of_rank(k: u32) -> Label
 
 // The one of two labels that comes first in their order.
 fn lesser(x: Label, y: Label) -> Label
-    requires { (edge_of x < 48) × (edge_of y < 48) }
+    requires { (edge_of x < EDGES) × (edge_of y < EDGES) }
     ensures { result ≡ least_label x y }
 {
     if rank(y) < rank(x) { y } else { x }

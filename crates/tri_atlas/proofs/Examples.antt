@@ -2,7 +2,8 @@
 use Rattle.std.proofs.Common.{◌≡◌, ℤ, pos, negsuc, List, [], ◌∷◌, ◌++◌, refl, arith}
 use Rattle.ideal_tri.specs.Triangulations.{IsWalk, previous}
 use Rattle.ideal_tri.specs.Flips.{flipped}
-use Rattle.tri_atlas.specs.Moves.{Move, flip, relabel, back_of, back_along, inverse_images}
+use Rattle.ideal_tri.specs.Relabellings.{inverse_images}
+use Rattle.tri_atlas.specs.Moves.{Move, flip, relabel, back_of, back_along}
 use Rattle.tri_atlas.specs.Maps.{image_of_letter, path_map}
 
 abbrev torus : List (List ℤ)

@@ -1,11 +1,12 @@
 use Rattle.std.proofs.Common.{◌≡◌, ◌∙◌, [], ◌∷◌, ℤ, List, pos, get_or, set, to_z, of_z, w32, ap, replicate, rules, arith}
-use Rattle.ideal_tri.specs.Places.{spare_triples}
+use Rattle.ideal_tri.specs.declared.tri.TheConstants.{TRIANGLES}
+use Rattle.ideal_tri.specs.inside.Places.{spare_triples}
 use Rattle.ideal_tri.proofs.Places.{copied_next, all_copied, read_triple}
 use Rattle.ideal_tri.proofs.tri.copy_sides.Goals as goal
 
 pub loop-t-init : goal.loop-t-init
 unfolding spare_triples
-loop-t-init c = ap (λ (z : ℤ). replicate 32 (z ∷ (z ∷ (z ∷ [])))) c.new.ensures
+loop-t-init c = ap (λ (z : ℤ). replicate TRIANGLES (z ∷ (z ∷ (z ∷ [])))) c.new.ensures
 
 pub loop-t-preserved : goal.loop-t-preserved
 loop-t-preserved c =

@@ -2,7 +2,7 @@ use Rattle.std.proofs.Common.{◌≡◌, ◌<◌, ◌*◌, ◌∙◌, ap, [], �
 use Rattle.ideal_tri.specs.Labels.{inverse}
 use Rattle.ideal_tri.specs.Triangulations.{triangle_of, next, previous, IsLabel}
 use Rattle.ideal_tri.specs.Flips.{IsFlippable}
-use Rattle.ideal_tri.specs.Places.{with_places}
+use Rattle.ideal_tri.specs.inside.Places.{with_places}
 use Rattle.ideal_tri.proofs.FlippedLayout.{HoldFlip, first_of, second_of, fields_read}
 use Rattle.ideal_tri.proofs.tri.Tri.flipped.Goals as goal
 
