@@ -36,3 +36,5 @@ pub mod ComputedPaths
 pub mod InnerTest
 pub mod Returns
 pub mod RelatedTest
+pub mod PathMaps
+pub mod RelatedPaths

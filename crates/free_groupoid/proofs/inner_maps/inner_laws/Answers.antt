@@ -1,6 +1,6 @@
 use Rattle.free_groupoid.proofs.InnerTest.{inner_test_laws}
 use Rattle.free_groupoid.proofs.InnerMaps.{inner_map_laws}
-use Rattle.free_groupoid.proofs.laws.inner_laws.Goals as goal
+use Rattle.free_groupoid.proofs.inner_maps.inner_laws.Goals as goal
 
 pub returns-clause-test : goal.returns-clause-test
 returns-clause-test c =

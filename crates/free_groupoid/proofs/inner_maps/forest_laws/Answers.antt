@@ -1,5 +1,5 @@
 use Rattle.free_groupoid.proofs.ForestLaws.{forest_laws}
-use Rattle.free_groupoid.proofs.laws.forest_laws.Goals as goal
+use Rattle.free_groupoid.proofs.inner_maps.forest_laws.Goals as goal
 
 pub returns : goal.returns
 returns c = λ triples tri.
