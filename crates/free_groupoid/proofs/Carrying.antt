@@ -10,7 +10,7 @@ use Rattle.tri_atlas.specs.MapLaws.{SubstitutionLaws}
 use Rattle.free_groupoid.specs.Inner.{IsKept}
 use Rattle.free_groupoid.specs.Related.{AreAlikeAt}
 use Rattle.free_groupoid.proofs.Letters.{reduce-left, reduce-right}
-use Rattle.free_groupoid.proofs.Names.{+0, -0, +1, -1, +2, +3, by_fact, flat_map-respects}
+use Rattle.free_groupoid.proofs.Names.{+0, -0, +1, +2, +3, by_fact, flat_map-respects}
 
 abbrev pub Carries : List ℤ → List ℤ → List ℤ → Type 0
 Carries q u v = reduce (u ++ q) ≡ reduce (q ++ v)

@@ -1,13 +1,11 @@
 -- Closed walks cyclically reduced: they are closed walks, keep to a component, and test walks are not empty.
-use Rattle.std.proofs.Common.{ℕ, ℤ, pos, List, [], ◌∷◌, ◌++◌, ◌≡◌, ◌≢◌, ◌<◌, refl, sym, ◌∙◌, ap, subst, length}
+use Rattle.std.proofs.Common.{ℕ, ℤ, pos, List, [], ◌∷◌, ◌++◌, ◌≡◌, refl, sym, ◌∙◌, ap, subst}
 use Rattle.std.specs.List.{All, Contains, flat_map}
 use Rattle.std.proofs.lemmas.List.{append-nil}
 use Rattle.std.proofs.lemmas.List.Concat.{flat_map-append}
-use Rattle.std.proofs.lemmas.List.Elements.{All-append}
-use Rattle.ideal_tri.specs.Labels.{inverse, edge_of}
-use Rattle.ideal_tri.specs.Words.{inverse_word, reduce, cyclic_reduce, IsReduced, IsRotation, IsCyclicallyReduced}
-use Rattle.ideal_tri.specs.WordLaws.{ReductionLaws}
-use Rattle.ideal_tri.specs.Triangulations.{IsLabel, IsWalk, triangle_of}
+use Rattle.ideal_tri.specs.Labels.{inverse}
+use Rattle.ideal_tri.specs.Words.{inverse_word, reduce, cyclic_reduce, IsReduced, IsCyclicallyReduced}
+use Rattle.ideal_tri.specs.Triangulations.{IsWalk, triangle_of}
 use Rattle.free_groupoid.specs.TestWalks.{root_of, outer_edges, root_of_edge, loop, test_walks}
 use Rattle.free_groupoid.specs.InnerLaws.{IsReducedLoop}
 use Rattle.free_groupoid.specs.inside.InnerPaths.{collapse}

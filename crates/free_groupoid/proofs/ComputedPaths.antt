@@ -1,9 +1,7 @@
 -- The walks computed from the loops of two edges make a map inner where it keeps all test walks.
-use Rattle.std.proofs.Common.{ℕ, ℤ, pos, List, [], ◌∷◌, ◌++◌, ◌≡◌, ◌≢◌, ◌<◌, ◌≤◌, inl, inr, refl, sym, ◌∙◌, ap, subst, arith, length, ◌+◌, ◌/◌}
+use Rattle.std.proofs.Common.{ℕ, ℤ, pos, List, [], ◌∷◌, ◌≡◌, ◌≢◌, ◌<◌, inl, inr, refl, sym, ◌∙◌, subst, arith, length, ◌+◌, ◌/◌}
 use Rattle.std.specs.List.{All, Contains, flat_map}
 use Rattle.std.proofs.lemmas.List.Elements.{All-drop}
-use Rattle.ideal_tri.specs.Words.{reduce}
-use Rattle.ideal_tri.specs.Triangulations.{IsWalk}
 use Rattle.tri_atlas.specs.Maps.{IsMap}
 use Rattle.free_groupoid.specs.TestWalks.{root_of, tree_walk, loop, outer_edges, edges_at, test_walks}
 use Rattle.free_groupoid.specs.Inner.{IsInner, IsKept}

@@ -1,5 +1,5 @@
 -- Where all test walks are kept, one word carries the letters of all outer edges of a component to their images.
-use Rattle.std.proofs.Common.{ℕ, ℤ, pos, List, [], ◌∷◌, ◌++◌, ◌≡◌, ◌≢◌, ◌<◌, ◌⊎◌, inl, inr, refl, sym, ◌∙◌, ap, subst, append_assoc, length}
+use Rattle.std.proofs.Common.{ℕ, ℤ, pos, List, [], ◌∷◌, ◌++◌, ◌≡◌, ◌≢◌, ◌⊎◌, inl, inr, refl, sym, ◌∙◌, ap, subst, append_assoc}
 use Rattle.std.specs.List.{All, Contains, flat_map}
 use Rattle.std.proofs.lemmas.Bool.{cases_eq}
 use Rattle.std.proofs.lemmas.List.Concat.{flat_map-append}
@@ -15,7 +15,7 @@ use Rattle.free_groupoid.proofs.Letters.{reduce-reduce}
 use Rattle.free_groupoid.proofs.Names.{+0, +1, +2, -3, +3, +4, by_fact}
 use Rattle.free_groupoid.proofs.Carrying.{Carries, carries_image, carries_same, kept-carries}
 use Rattle.free_groupoid.proofs.Shared.{IsPair, shared_carries_one, shared_carries_other, shared_carries_third}
-use Rattle.free_groupoid.proofs.Collapse.{IsOuter, collapse-odd}
+use Rattle.free_groupoid.proofs.Collapse.{collapse-odd}
 use Rattle.free_groupoid.proofs.Loops.{Laws}
 use Rattle.free_groupoid.proofs.OuterEdges.{edge_at_outer, edge_at_edge}
 use Rattle.free_groupoid.proofs.TestLists.{loop_walk, product_walk, loop_tested, product_tested}
@@ -51,9 +51,11 @@ module _ (triples : List (List ℤ)) (l : Laws triples) (f : ℤ → List ℤ) (
   letter_carried e h =
       let (q, carries) = collapsed_carries (loop triples (pos e))
       (All-contains (IsKept f) (test_walks triples) (loop_walk triples e) kept (loop_tested triples e (edge_at_edge triples r e h))) in
-      let collapsed : List ℤ = flat_map (collapse triples r) (flat_map f (loop triples (pos e))) in
-      (q, carries_same l.reduction l.substitution q (flat_map (collapse triples r) (loop triples (pos e))) collapsed (pos e ∷ []) (image e)
-      (ap reduce (loop_collapsed triples l r e (edge_at_outer triples r e h))) (sym (reduce-reduce l.reduction collapsed)) carries)
+      let collapsed : List ℤ = flat_map (collapse triples r) (flat_map f (loop triples (pos e))) in (
+        q,
+        carries_same l.reduction l.substitution q (flat_map (collapse triples r) (loop triples (pos e))) collapsed (pos e ∷ []) (image e)
+            (ap reduce (loop_collapsed triples l r e (edge_at_outer triples r e h))) (sym (reduce-reduce l.reduction collapsed)) carries,
+      )
 
   product_carried : (i j : ℕ) → IsEdge i → IsEdge j → IsKept f (product_walk triples i j)
       → (q : List ℤ) × Carries q (pos i ∷ (pos j ∷ [])) (image i ++ image j)
@@ -64,10 +66,12 @@ module _ (triples : List (List ℤ)) (l : Laws triples) (f : ℤ → List ℤ) (
       let parts : flat_map (collapse triples r) (flat_map f w) ≡ one ++ other =
       ap (flat_map (collapse triples r)) (flat_map-append f (loop triples (pos i)) (loop triples (pos j)))
       ∙ flat_map-append (collapse triples r) (flat_map f (loop triples (pos i))) (flat_map f (loop triples (pos j))) in
-      let (q, carries) = collapsed_carries w passes in
-      (q, carries_same l.reduction l.substitution q (flat_map (collapse triples r) w) (flat_map (collapse triples r) (flat_map f w)) (pos i ∷ (pos j ∷ []))
-      (image i ++ image j) (ap reduce (product_collapsed triples l r i j (edge_at_outer triples r i h) (edge_at_outer triples r j k)))
-      (ap reduce parts ∙ l.reduction.append one other) carries)
+      let (q, carries) = collapsed_carries w passes in (
+        q,
+        carries_same l.reduction l.substitution q (flat_map (collapse triples r) w) (flat_map (collapse triples r) (flat_map f w)) (pos i ∷ (pos j ∷ []))
+            (image i ++ image j) (ap reduce (product_collapsed triples l r i j (edge_at_outer triples r i h) (edge_at_outer triples r j k)))
+            (ap reduce parts ∙ l.reduction.append one other) carries,
+      )
 
   pub pair_carried : (i j : ℕ) → i ≢ j → IsEdge i → IsEdge j → (q : List ℤ) × Carries q (pos i ∷ (pos j ∷ [])) (image i ++ image j)
   pair_carried i j ne h k =

@@ -1,5 +1,5 @@
 -- Worked examples: the test walks of the once-punctured torus, the four-punctured sphere, and two spheres at once.
-use Rattle.std.specs.Prelude.{◌≡◌, ℕ, ℤ, pos, negsuc, List, [], ◌∷◌, refl, take, length}
+use Rattle.std.specs.Prelude.{◌≡◌, ℤ, pos, negsuc, List, [], ◌∷◌, refl}
 use Rattle.ideal_tri.specs.Words.{cyclic_reduce, strip}
 use Rattle.free_groupoid.specs.TestWalks.{forest, root_of, tree_walk, is_tree_edge, outer_edges, test_walks}
 

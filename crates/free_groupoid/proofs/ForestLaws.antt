@@ -1,18 +1,17 @@
 -- The laws of the spanning forest.
-use Rattle.std.proofs.Common.{ℕ, ℤ, pos, negsuc, Bool, true, false, List, [], ◌∷◌, ◌++◌, ◌≡◌, ◌≢◌, ◌<◌, ◌≤◌, ◌+◌, ◌⊎◌, inl, inr, refl, sym, ◌∙◌, ap, subst, arith, length, nat_eq, not}
-use Rattle.std.specs.List.{All, Contains, range_with_len}
+use Rattle.std.proofs.Common.{ℕ, ℤ, pos, negsuc, List, ◌≡◌, ◌≢◌, inl, inr, refl, sym, ◌∙◌, ap, arith, length, nat_eq, not}
+use Rattle.std.specs.List.{Contains, range_with_len}
 use Rattle.std.proofs.lemmas.Bool.{cases_eq, eq-eqb, not_from_false}
 use Rattle.ideal_tri.specs.Labels.{inverse, edge_of}
 use Rattle.ideal_tri.specs.WordLaws.{ReductionLaws}
-use Rattle.ideal_tri.specs.Triangulations.{IsTriangulation, IsLabel, IsWalk, edge_count, triangle_of}
+use Rattle.ideal_tri.specs.Triangulations.{IsTriangulation, IsLabel, edge_count, triangle_of}
 use Rattle.ideal_tri.specs.SurfaceLaws.{TriangleLaws, WalkLaws}
 use Rattle.free_groupoid.specs.TestWalks.{Node, node_at, forest, root_of, tree_walk, is_tree_edge, outer_edges, root_of_edge, edges_at}
 use Rattle.free_groupoid.specs.ForestLaws.{ForestLaws}
 use Rattle.free_groupoid.proofs.Letters.{two_labels}
 use Rattle.free_groupoid.proofs.Members.{member_filter, member_range}
-use Rattle.free_groupoid.proofs.Nodes.{is_crossed}
-use Rattle.free_groupoid.proofs.Forests.{IsFree, AreFree, IsForest}
-use Rattle.free_groupoid.proofs.ForestNodes.{IsNodeAt, only_node, node_is_at, node_walk, node_least, node_component, node_letters, node_across}
+use Rattle.free_groupoid.proofs.Forests.{IsFree, AreFree}
+use Rattle.free_groupoid.proofs.ForestNodes.{only_node, node_is_at, node_walk, node_least, node_component, node_letters, node_across}
 use Rattle.free_groupoid.proofs.Planting.{IsGrown, forest_grown}
 
 -- both labels of an edge lie in one component

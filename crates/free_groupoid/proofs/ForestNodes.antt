@@ -1,23 +1,21 @@
 -- The node at a triangle, its walk, and steps across the edges that the forest crosses.
-use Rattle.std.proofs.Common.{ℕ, ℤ, pos, negsuc, zero, suc, Bool, true, false, List, [], ◌∷◌, ◌++◌, ◌≡◌, ◌≢◌, ◌<◌, ◌≤◌, ◌+◌, ◌||◌, ◌⊎◌, inl, inr, refl, sym, ◌∙◌, ap, subst, append_assoc, arith, length, length-append, nat_eq, cond, not}
+use Rattle.std.proofs.Common.{ℕ, ℤ, zero, suc, Bool, true, List, [], ◌∷◌, ◌++◌, ◌≡◌, ◌<◌, ◌≤◌, ◌||◌, ◌⊎◌, inl, inr, refl, sym, ◌∙◌, ap, subst, append_assoc, arith, length, length-append, nat_eq}
 use Rattle.std.specs.List.{All, Contains}
-use Rattle.std.proofs.lemmas.Bool.{cases_Bool, cond-true, cond-false, cases_eq, eqb-true, eq-eqb, ne_eqb, false≢true, not_from_false}
+use Rattle.std.proofs.lemmas.Bool.{cases_Bool, cond-true, cond-false, eqb-true, eq-eqb, false≢true}
 use Rattle.std.proofs.lemmas.List.{append-nil}
 use Rattle.std.proofs.lemmas.List.Elements.{All-nil, All-push}
 use Rattle.ideal_tri.specs.Labels.{inverse, edge_of}
 use Rattle.ideal_tri.specs.Words.{reduce}
 use Rattle.ideal_tri.specs.WordLaws.{ReductionLaws}
-use Rattle.ideal_tri.specs.Triangulations.{IsTriangulation, IsLabel, IsWalk, edge_count, triangle_of}
-use Rattle.ideal_tri.specs.SurfaceLaws.{TriangleLaws, WalkLaws}
-use Rattle.free_groupoid.specs.TestWalks.{Node, root_node, node_at, node_beyond, is_reached, ends_across, forest, root_of, tree_walk, is_tree_edge, outer_edges, root_of_edge, edges_at}
-use Rattle.free_groupoid.specs.ForestLaws.{ForestLaws}
-use Rattle.free_groupoid.proofs.Letters.{inverse-inverse, edge_of-inverse, two_labels}
-use Rattle.free_groupoid.proofs.Sides.{inverse_label}
-use Rattle.free_groupoid.proofs.Members.{member_here, member_later, member_filter, member_range}
+use Rattle.ideal_tri.specs.Triangulations.{IsLabel, IsWalk, triangle_of}
+use Rattle.ideal_tri.specs.SurfaceLaws.{TriangleLaws}
+use Rattle.free_groupoid.specs.TestWalks.{Node, root_node, node_at, is_reached, ends_across}
+use Rattle.free_groupoid.proofs.Letters.{inverse-inverse, two_labels}
+use Rattle.free_groupoid.proofs.Members.{member_here, member_later}
 use Rattle.free_groupoid.proofs.Nodes.{is_crossed, crossed_by, crossing_node, ends_across-push}
-use Rattle.free_groupoid.proofs.Forests.{StandsBeyond, IsFree, AreFree, IsForest}
-use Rattle.free_groupoid.proofs.Turns.{IsBeyond, IsClosed}
-use Rattle.free_groupoid.proofs.Planting.{IsGrown, forest_grown}
+use Rattle.free_groupoid.proofs.Forests.{StandsBeyond}
+use Rattle.free_groupoid.proofs.Turns.{IsBeyond}
+use Rattle.free_groupoid.proofs.Planting.{IsGrown}
 
 -- ---- the node at a triangle
 

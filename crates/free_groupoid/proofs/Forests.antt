@@ -4,16 +4,14 @@
 -- first. Where a node is added beyond a side x, the tree crosses x and its inverse from then on; x is replaced by the side
 -- after its inverse, which is new. So at the end two edges at least of each component lie outside the forest: three
 -- labels are of two edges.
-use Rattle.std.proofs.Common.{ℕ, ℤ, Bool, true, false, List, [], ◌∷◌, ◌++◌, ◌≡◌, ◌≢◌, ◌<◌, ◌≤◌, ◌+◌, ◌⊎◌, inl, inr, refl, sym, ◌∙◌, ap, subst, arith, length, nat_eq}
+use Rattle.std.proofs.Common.{ℕ, ℤ, true, false, List, ◌≡◌, ◌≢◌, ◌<◌, ◌≤◌, ◌⊎◌, inl, inr, sym, ◌∙◌, ap, length, nat_eq}
 use Rattle.std.specs.List.{Contains}
-use Rattle.std.proofs.lemmas.Bool.{cases_eq, eqb-true, ne_eqb, false_from_ne_true, false≢true, both_ways}
-use Rattle.std.proofs.lemmas.List.Elements.{Contains-append_left, Contains-push, Contains-push_cases}
-use Rattle.ideal_tri.specs.Labels.{inverse, edge_of}
-use Rattle.ideal_tri.specs.Triangulations.{IsLabel, IsWalk, triangle_of, next, previous}
-use Rattle.ideal_tri.specs.SurfaceLaws.{TriangleLaws, WalkLaws}
+use Rattle.std.proofs.lemmas.Bool.{eqb-true, false_from_ne_true, false≢true, both_ways}
+use Rattle.ideal_tri.specs.Labels.{edge_of}
+use Rattle.ideal_tri.specs.Triangulations.{IsLabel, IsWalk, triangle_of}
 use Rattle.free_groupoid.specs.TestWalks.{Node, root_node, node_beyond, is_reached, ends_across}
-use Rattle.free_groupoid.proofs.Letters.{inverse-inverse, edge_of-inverse, two_labels}
-use Rattle.free_groupoid.proofs.Nodes.{node_reaches, not_reached, is_crossed, crossing_node, still_uncrossed, ends_across-push}
+use Rattle.free_groupoid.proofs.Letters.{two_labels}
+use Rattle.free_groupoid.proofs.Nodes.{node_reaches, not_reached, is_crossed, crossing_node, ends_across-push}
 
 -- ---- what holds of the nodes
 

@@ -2,21 +2,19 @@
 --
 -- Each turn takes one node from those that wait and adds one for each triangle that is new, so the number of triangles
 -- that are missing and of nodes that wait falls by one. It is at most the number of triangles, which is the bound.
-use Rattle.std.proofs.Common.{ℕ, ℤ, zero, suc, Bool, true, false, List, [], ◌∷◌, ◌++◌, ◌≡◌, ◌<◌, ◌≤◌, ◌+◌, ◌⊎◌, inl, inr, refl, sym, ◌∙◌, ap, subst, append_assoc, arith, length, length-append, cond}
+use Rattle.std.proofs.Common.{ℕ, ℤ, true, false, List, [], ◌∷◌, ◌++◌, ◌≡◌, ◌≤◌, ◌⊎◌, inl, inr, refl, sym, ◌∙◌, ap, subst, append_assoc, arith, length, length-append}
 use Rattle.std.specs.List.{Contains}
 use Rattle.std.proofs.lemmas.Bool.{cases_Bool, cond-true, cond-false, cases_lt, both_ways}
-use Rattle.std.proofs.lemmas.List.{append-nil}
 use Rattle.std.proofs.lemmas.List.Elements.{Contains-append_left, Contains-push, Contains-push_cases}
 use Rattle.ideal_tri.specs.Labels.{inverse}
 use Rattle.ideal_tri.specs.Triangulations.{IsLabel, triangle_of}
 use Rattle.ideal_tri.specs.SurfaceLaws.{TriangleLaws, WalkLaws}
-use Rattle.free_groupoid.specs.TestWalks.{Node, node_beyond, is_reached, sides_in_order, sprout, grow}
+use Rattle.free_groupoid.specs.TestWalks.{Node, node_beyond, is_reached, sprout}
 use Rattle.free_groupoid.proofs.Sides.{inverse_label}
-use Rattle.free_groupoid.proofs.SidesInOrder.{side_in_order, in_order_side}
 use Rattle.free_groupoid.proofs.Members.{member_here, member_later, member_cases, no_member}
 use Rattle.free_groupoid.proofs.Nodes.{still_reached, missing, missing-new}
 use Rattle.free_groupoid.proofs.Forests.{IsForest}
-use Rattle.free_groupoid.proofs.Sprouts.{IsOpen, sprouted}
+use Rattle.free_groupoid.proofs.Sprouts.{IsOpen}
 use Rattle.free_groupoid.proofs.Additions.{sprouted_forest}
 use Rattle.free_groupoid.proofs.Turns.{IsBeyond, IsClosed, IsGrowing, IsTurning, closed_more, beyond_more, turn_past}
 
@@ -37,8 +35,13 @@ module _ (triples : List (List ℤ)) (t : TriangleLaws triples) (w : WalkLaws tr
     below = λ i k. reached i (g.below i k);
     root = reached r g.root;
     few =
-        omega (arith, g.few, ap (missing (length triples)) regroup, length-append todo (new ∷ []),
-        missing-new (length triples) (done ++ todo) new (t.triangle (inverse x) (inverse_label triples x side.0)) h);
+        omega (
+          arith,
+          g.few,
+          ap (missing (length triples)) regroup,
+          length-append todo (new ∷ []),
+          missing-new (length triples) (done ++ todo) new (t.triangle (inverse x) (inverse_label triples x side.0)) h,
+        );
   }
     where
       new : Node

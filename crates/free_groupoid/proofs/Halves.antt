@@ -1,5 +1,5 @@
 -- A reduced word conjugate to a letter has that letter in its middle, and the second half conjugates.
-use Rattle.std.proofs.Common.{ℕ, ℤ, pos, negsuc, List, [], ◌∷◌, ◌++◌, ◌≡◌, ◌≢◌, ◌+◌, ◌*◌, ◌/◌, refl, sym, ◌∙◌, ap, subst, append_assoc, arith, length, drop, length-append}
+use Rattle.std.proofs.Common.{ℤ, pos, negsuc, List, [], ◌∷◌, ◌++◌, ◌≡◌, ◌≢◌, ◌+◌, ◌/◌, refl, sym, ◌∙◌, ap, subst, append_assoc, arith, length, drop, length-append}
 use Rattle.std.proofs.lemmas.List.{append-nil, drop_at}
 use Rattle.ideal_tri.specs.Labels.{inverse}
 use Rattle.ideal_tri.specs.Words.{inverse_word, IsReduced, reduce, cyclic_reduce, IsRotation}

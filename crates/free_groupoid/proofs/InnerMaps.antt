@@ -1,5 +1,5 @@
 -- Inner maps compose, have inner inverses, stay inner where they are carried along a map, and fix closed walks up to rotation.
-use Rattle.std.proofs.Common.{ℕ, ℤ, Bool, true, false, List, [], ◌∷◌, ◌++◌, ◌≡◌, ◌<◌, ◌+◌, inl, inr, refl, sym, ◌∙◌, ap, subst, append_assoc, length, map, cond}
+use Rattle.std.proofs.Common.{ℕ, ℤ, Bool, true, false, List, [], ◌∷◌, ◌++◌, ◌≡◌, ◌<◌, ◌+◌, inl, refl, sym, ◌∙◌, ap, subst, append_assoc, length, cond}
 use Rattle.std.specs.List.{All, flat_map, count_by}
 use Rattle.std.proofs.lemmas.List.Concat.{flat_map-append}
 use Rattle.std.proofs.lemmas.List.Elements.{All-head, All-tail}
@@ -10,7 +10,7 @@ use Rattle.ideal_tri.specs.Curves.{IsSameCurve, is_same_curve}
 use Rattle.ideal_tri.specs.WordLaws.{ReductionLaws, CyclicLaws, CurveLaws}
 use Rattle.ideal_tri.specs.Triangulations.{IsTriangulation, IsLabel, IsWalk, triangle_of}
 use Rattle.ideal_tri.specs.SurfaceLaws.{SurfaceLaws, WalkLaws}
-use Rattle.tri_atlas.specs.Maps.{IsMap, IsFixed, identity, after, images_under}
+use Rattle.tri_atlas.specs.Maps.{IsMap, identity, after, images_under}
 use Rattle.tri_atlas.specs.MapLaws.{SubstitutionLaws}
 use Rattle.free_groupoid.specs.Inner.{IsInner}
 use Rattle.free_groupoid.specs.InnerLaws.{InnerMapLaws}

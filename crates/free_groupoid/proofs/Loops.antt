@@ -3,9 +3,8 @@
 -- A walk is the walk back along the tree from where it starts, the loops of its outer letters, and the walk along the tree
 -- to where it ends, up to reduction: letter by letter, and what stands between two of them cancels. So two walks with the
 -- same ends and the same outer letters, up to reduction, have the same reduction.
-use Rattle.std.proofs.Common.{ℕ, ℤ, Bool, true, false, List, [], ◌∷◌, ◌++◌, ◌≡◌, ◌<◌, ◌⊎◌, inl, inr, refl, sym, ◌∙◌, ap, subst, append_assoc, length}
+use Rattle.std.proofs.Common.{ℕ, ℤ, Bool, true, false, List, [], ◌∷◌, ◌++◌, ◌≡◌, ◌<◌, refl, sym, ◌∙◌, ap, subst, append_assoc, length}
 use Rattle.std.specs.List.{All, flat_map}
-use Rattle.std.proofs.lemmas.Bool.{cases_Bool}
 use Rattle.std.proofs.lemmas.List.{append-nil}
 use Rattle.std.proofs.lemmas.List.Concat.{flat_map-append}
 use Rattle.std.proofs.lemmas.List.Elements.{All-head, All-tail}
@@ -19,8 +18,8 @@ use Rattle.tri_atlas.specs.MapLaws.{SubstitutionLaws}
 use Rattle.free_groupoid.specs.TestWalks.{root_of, tree_walk, is_tree_edge, loop}
 use Rattle.free_groupoid.specs.ForestLaws.{ForestLaws}
 use Rattle.free_groupoid.specs.inside.InnerPaths.{collapse}
-use Rattle.free_groupoid.proofs.Letters.{inverse-inverse, inverse_word-append, inverse_word-inverse_word, reduce-left, reduce-right}
-use Rattle.free_groupoid.proofs.Names.{+0, -0, +1, +2, -2, by_name, by_fact, flat_map-respects}
+use Rattle.free_groupoid.proofs.Letters.{inverse-inverse, inverse_word-append, inverse_word-inverse_word}
+use Rattle.free_groupoid.proofs.Names.{+0, -0, +1, +2, -2, by_name, by_fact}
 use Rattle.free_groupoid.proofs.Sides.{inverse_label}
 use Rattle.free_groupoid.proofs.Collapse.{IsOuter, collapse-odd, collapse-outer, collapse-tree, collapse-trees}
 
@@ -61,11 +60,13 @@ module _ (triples : List (List ℤ)) (l : Laws triples) where
       l.walks.join r (triangle_of triples x) r (tree_walk triples (triangle_of triples x))
       (x ∷ inverse_word (tree_walk triples (triangle_of triples (inverse x))))
       (subst (λ (i : ℕ). IsWalk triples i (tree_walk triples (triangle_of triples x)) (triangle_of triples x)) root
-      (l.forest.walk (triangle_of triples x) (source_in x label)))
-      (label, refl,
-      l.walks.back r (triangle_of triples (inverse x)) (tree_walk triples (triangle_of triples (inverse x)))
-      (subst (λ (i : ℕ). IsWalk triples i (tree_walk triples (triangle_of triples (inverse x))) (triangle_of triples (inverse x)))
-      (l.forest.component x label ∙ root) (l.forest.walk (triangle_of triples (inverse x)) (target_in x label))))
+      (l.forest.walk (triangle_of triples x) (source_in x label))) (
+        label,
+        refl,
+        l.walks.back r (triangle_of triples (inverse x)) (tree_walk triples (triangle_of triples (inverse x)))
+            (subst (λ (i : ℕ). IsWalk triples i (tree_walk triples (triangle_of triples (inverse x))) (triangle_of triples (inverse x)))
+            (l.forest.component x label ∙ root) (l.forest.walk (triangle_of triples (inverse x)) (target_in x label))),
+      )
 
   -- so are the loops of letters of one component
   pub loops_closed : (r : ℕ) (w : List ℤ) → All (IsOuter triples r) w → IsWalk triples r (flat_map (loop triples) w) r
@@ -107,8 +108,8 @@ module _ (triples : List (List ℤ)) (l : Laws triples) where
   -- back along the tree, the loop of the letter if it is outer, and along the tree
   pub telescope_letter : (r : ℕ) (x : ℤ) → IsLabel triples x → root_of triples (triangle_of triples x) ≡ r
       → reduce (x ∷ [])
-          ≡ reduce (inverse_word (tree_walk triples (triangle_of triples x))
-          ++ (flat_map (loop triples) (collapse triples r x) ++ tree_walk triples (triangle_of triples (inverse x))))
+      ≡ reduce (inverse_word (tree_walk triples (triangle_of triples x))
+      ++ (flat_map (loop triples) (collapse triples r x) ++ tree_walk triples (triangle_of triples (inverse x))))
   telescope_letter r x label root = go (is_tree_edge triples (edge_of x)) refl
     where
       here : List ℤ

@@ -1,7 +1,7 @@
 -- Nodes: which triangles they reach, how many triangles they miss, and which edges their walks end across.
-use Rattle.std.proofs.Common.{ℕ, ℤ, zero, suc, Bool, true, false, List, [], ◌∷◌, ◌++◌, ◌≡◌, ◌≢◌, ◌<◌, ◌≤◌, ◌+◌, ◌||◌, ◌⊎◌, inl, inr, refl, sym, ◌∙◌, ap, subst, arith, length, cond, nat_eq}
+use Rattle.std.proofs.Common.{ℕ, ℤ, zero, suc, Bool, true, false, List, [], ◌∷◌, ◌++◌, ◌≡◌, ◌≢◌, ◌<◌, ◌≤◌, ◌+◌, ◌||◌, inl, inr, refl, ◌∙◌, ap, arith, cond, nat_eq}
 use Rattle.std.specs.List.{Contains, list_any}
-use Rattle.std.proofs.lemmas.Bool.{or_cases, or_left, or_right, or_parts, or_from, cases_Bool, cases_eq, eq-eqb, ne_eqb, eqb-true, cond-true, cond-false, both_ways}
+use Rattle.std.proofs.lemmas.Bool.{or_left, or_right, or_from, cases_eq, eq-eqb, eqb-true, cond-true, cond-false, both_ways}
 use Rattle.std.proofs.lemmas.List.Folds.{list_any-append}
 use Rattle.ideal_tri.specs.Labels.{edge_of}
 use Rattle.ideal_tri.specs.Words.{last_of}

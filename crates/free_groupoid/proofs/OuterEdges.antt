@@ -1,10 +1,10 @@
 -- The edges outside the forest, as a list: which they are, and that they come in increasing order.
-use Rattle.std.proofs.Common.{ℕ, ℤ, pos, zero, suc, Bool, true, false, List, [], ◌∷◌, ◌≡◌, ◌≢◌, ◌<◌, ◌≤◌, ◌+◌, inl, inr, refl, sym, ◌∙◌, ap, subst, arith, length, cond, nat_eq, not}
+use Rattle.std.proofs.Common.{ℕ, ℤ, pos, zero, suc, Bool, List, [], ◌∷◌, ◌≤◌, ◌+◌, inl, inr, refl, sym, ◌∙◌, subst, arith, nat_eq, not}
 use Rattle.std.specs.List.{Contains, filter, range_with_len}
 use Rattle.std.proofs.lemmas.Bool.{cases_Bool, cond-true, cond-false, eq-eqb, eqb-true, not-true, not_from_false}
 use Rattle.ideal_tri.specs.Labels.{edge_of}
-use Rattle.ideal_tri.specs.Triangulations.{IsLabel, edge_count, triangle_of}
-use Rattle.free_groupoid.specs.TestWalks.{root_of, is_tree_edge, outer_edges, root_of_edge, edges_at}
+use Rattle.ideal_tri.specs.Triangulations.{edge_count}
+use Rattle.free_groupoid.specs.TestWalks.{is_tree_edge, outer_edges, root_of_edge, edges_at}
 use Rattle.free_groupoid.specs.ForestLaws.{ForestLaws}
 use Rattle.free_groupoid.proofs.Members.{member_filter, filter_member, member_range, range_member}
 use Rattle.free_groupoid.proofs.Collapse.{IsOuter}

@@ -1,11 +1,10 @@
 -- The maps of a path and of the path backwards undo each other.
-use Rattle.std.proofs.Common.{ℕ, ℤ, List, [], ◌∷◌, ◌++◌, ◌≡◌, ◌<◌, refl, sym, ◌∙◌, ap, subst, append_assoc, length, map, reverse}
-use Rattle.std.specs.List.{flat_map}
+use Rattle.std.proofs.Common.{ℕ, ℤ, List, [], ◌∷◌, ◌++◌, ◌≡◌, refl, sym, ◌∙◌, ap, subst, map, reverse}
 use Rattle.std.proofs.lemmas.List.{reverse-append, map-append}
 use Rattle.ideal_tri.specs.Labels.{inverse}
-use Rattle.ideal_tri.specs.Triangulations.{IsTriangulation, IsLabel, IsWalk, triangle_of}
-use Rattle.tri_atlas.specs.Moves.{Move, IsMove, back_of, ArePath, back_along, triangle_image}
-use Rattle.tri_atlas.specs.Maps.{IsMap, identity, after, image_of_letter, path_map}
+use Rattle.ideal_tri.specs.Triangulations.{IsTriangulation, IsWalk, triangle_of}
+use Rattle.tri_atlas.specs.Moves.{Move, back_of, ArePath, back_along, triangle_image}
+use Rattle.tri_atlas.specs.Maps.{IsMap, after, image_of_letter, path_map}
 use Rattle.tri_atlas.specs.MapLaws.{MapLaws}
 use Rattle.free_groupoid.specs.RelatedLaws.{IsPathMap}
 use Rattle.free_groupoid.proofs.Returns.{AreInverse}
@@ -71,15 +70,15 @@ module _ (laws : MapLaws) where
       let (back_triangles, back_map) = path_is_map target source (back_along moves) h.end h.start backwards in (
         back_triangles,
         record {
-              source_is = h.start;
-              target_is = h.end;
-              there = h.map;
-              back = back_map;
-              there_back = λ x label.
-                  sym (laws.paths.join moves (back_along moves) x) ∙ laws.paths.undo source target moves x h.start h.path label;
-              back_there = λ x label.
-                  sym (laws.paths.join (back_along moves) moves x)
-                  ∙ ap (λ (ms : List Move). path_map (back_along moves ++ ms) x) (sym (back_twice source target moves h.path))
-                  ∙ laws.paths.undo target source (back_along moves) x h.end backwards label;
-            },
+          source_is = h.start;
+          target_is = h.end;
+          there = h.map;
+          back = back_map;
+          there_back = λ x label.
+              sym (laws.paths.join moves (back_along moves) x) ∙ laws.paths.undo source target moves x h.start h.path label;
+          back_there = λ x label.
+              sym (laws.paths.join (back_along moves) moves x)
+              ∙ ap (λ (ms : List Move). path_map (back_along moves ++ ms) x) (sym (back_twice source target moves h.path))
+              ∙ laws.paths.undo target source (back_along moves) x h.end backwards label;
+        },
       )

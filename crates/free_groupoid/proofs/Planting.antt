@@ -1,11 +1,11 @@
 -- Trees from all triangles in turn: at the end each triangle is reached, and sides lead to nodes of the same tree.
-use Rattle.std.proofs.Common.{ℕ, ℤ, zero, suc, Bool, true, false, List, [], ◌∷◌, ◌++◌, ◌≡◌, ◌<◌, ◌≤◌, ◌+◌, ◌⊎◌, inl, inr, refl, sym, ◌∙◌, ap, subst, append_assoc, arith, length, cond}
+use Rattle.std.proofs.Common.{ℕ, ℤ, zero, suc, true, false, List, [], ◌∷◌, ◌++◌, ◌≡◌, ◌<◌, ◌+◌, ◌⊎◌, inl, inr, sym, ◌∙◌, ap, subst, append_assoc, arith, length}
 use Rattle.std.specs.List.{Contains, range_with_len}
 use Rattle.std.proofs.Math.Numerals.{add-one}
 use Rattle.std.proofs.lemmas.Bool.{cases_Bool, cond-true, cond-false, cases_eq}
 use Rattle.std.proofs.lemmas.List.{append-nil}
 use Rattle.std.proofs.lemmas.List.Elements.{Contains-append_left, Contains-push, Contains-push_cases}
-use Rattle.ideal_tri.specs.Triangulations.{IsTriangulation, IsLabel, triangle_of}
+use Rattle.ideal_tri.specs.Triangulations.{IsTriangulation}
 use Rattle.ideal_tri.specs.SurfaceLaws.{TriangleLaws, WalkLaws}
 use Rattle.free_groupoid.specs.TestWalks.{Node, root_node, is_reached, sides_in_order, sprout, grow, plant, forest}
 use Rattle.free_groupoid.proofs.Sides.{side_of_triangle}

@@ -5,17 +5,17 @@
 -- taken off. If a word w is left, it begins with another edge than that of x and ends with another than that of y, so
 -- x w y w⁻¹ is cyclically reduced. Conjugate words that are cyclically reduced are rotations of each other and have the
 -- same length: but x y has two letters, and the other word has more.
-use Rattle.std.proofs.Common.{ℕ, ℤ, List, [], ◌∷◌, ◌++◌, ◌≡◌, ◌≢◌, inl, inr, refl, sym, ◌∙◌, ap, subst, append_assoc, arith, length, length-append}
+use Rattle.std.proofs.Common.{ℤ, List, [], ◌∷◌, ◌++◌, ◌≡◌, ◌≢◌, inl, inr, refl, sym, ◌∙◌, ap, subst, append_assoc, arith, length, length-append}
 use Rattle.ideal_tri.specs.Labels.{inverse, edge_of}
 use Rattle.ideal_tri.specs.Words.{inverse_word, IsReduced, reduce, cyclic_reduce, IsRotation, IsCyclicallyReduced}
 use Rattle.ideal_tri.specs.WordLaws.{ReductionLaws, CyclicLaws}
 use Rattle.tri_atlas.specs.MapLaws.{SubstitutionLaws}
 use Rattle.free_groupoid.proofs.Letters.{edge_of-inverse, inverse_word-append}
-use Rattle.free_groupoid.proofs.Names.{+0, -0, +1, +2, -2, +3, -3, +4, -4, +5, +6, -6, by_fact}
+use Rattle.free_groupoid.proofs.Names.{+0, +1, +2, -2, +3, -3, +4, -4, +5, +6, -6, by_fact}
 use Rattle.free_groupoid.proofs.Carrying.{Carries, carries-rotation}
 use Rattle.free_groupoid.proofs.Reduced.{IsReduced-front, IsReduced-back, IsReduced-join, IsReduced-inverse_word, apart}
 use Rattle.free_groupoid.proofs.Powers.{Only, StartsApart, power_commutes}
-use Rattle.free_groupoid.proofs.Splits.{EndSplit, end_split}
+use Rattle.free_groupoid.proofs.Splits.{end_split}
 
 -- ---- a product that is cyclically reduced
 
@@ -41,9 +41,10 @@ product_cyclic r x y w m l h t ends starts n_x n_y reduced =
     -- y w⁻¹ x
     from_y : IsReduced (y ∷ (back ++ (x ∷ [])))
     from_y =
-        subst (λ (z : List ℤ). IsReduced (y ∷ (z ++ (x ∷ [])))) (sym back_starts)
-        (apart (inverse l) y (λ e. n_y (sym (edge_of-inverse l) ∙ e)),
-        subst (λ (z : List ℤ). IsReduced (z ++ (x ∷ []))) back_starts back_then)
+        subst (λ (z : List ℤ). IsReduced (y ∷ (z ++ (x ∷ [])))) (sym back_starts) (
+          apart (inverse l) y (λ e. n_y (sym (edge_of-inverse l) ∙ e)),
+          subst (λ (z : List ℤ). IsReduced (z ++ (x ∷ []))) back_starts back_then,
+        )
 
     -- w y w⁻¹ x
     joined : IsReduced (w ++ (y ∷ (back ++ (x ∷ []))))

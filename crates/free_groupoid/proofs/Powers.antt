@@ -1,13 +1,12 @@
 -- Words whose letters all are of one edge: they commute with its letters, and with no other letter.
-use Rattle.std.proofs.Common.{ℕ, ℤ, Bool, true, false, List, [], ◌∷◌, ◌++◌, ◌≡◌, ◌≢◌, ◌⊎◌, ◌+◌, inl, inr, refl, sym, ◌∙◌, ap, subst, append_assoc, nat_eq, cond, take}
-use Rattle.std.specs.List.{All, take_while, prefix_len}
-use Rattle.std.proofs.Math.Numerals.{one-add}
+use Rattle.std.proofs.Common.{ℤ, List, [], ◌∷◌, ◌++◌, ◌≡◌, ◌≢◌, ◌⊎◌, inl, inr, refl, sym, ◌∙◌, ap, subst}
+use Rattle.std.specs.List.{All}
 use Rattle.std.proofs.lemmas.List.Elements.{All-nil, All-cons, All-head, All-tail}
 use Rattle.ideal_tri.specs.Labels.{inverse, edge_of}
-use Rattle.ideal_tri.specs.Words.{inverse_word, IsReduced, reduce}
+use Rattle.ideal_tri.specs.Words.{IsReduced}
 use Rattle.ideal_tri.specs.WordLaws.{ReductionLaws}
 use Rattle.tri_atlas.specs.MapLaws.{SubstitutionLaws}
-use Rattle.free_groupoid.proofs.Letters.{inverse-inverse, edge_of-inverse, two_labels, reduce-right}
+use Rattle.free_groupoid.proofs.Letters.{two_labels, reduce-right}
 use Rattle.free_groupoid.proofs.Names.{+0, -0, +1, by_fact}
 use Rattle.free_groupoid.proofs.Carrying.{Carries}
 use Rattle.free_groupoid.proofs.Reduced.{apart}

@@ -1,7 +1,6 @@
 -- Maps of paths are related exactly where they are alike at each test walk.
 use Rattle.std.proofs.Common.{ℤ, List}
 use Rattle.ideal_tri.specs.Triangulations.{IsTriangulation}
-use Rattle.ideal_tri.specs.SurfaceLaws.{WalkLaws}
 use Rattle.tri_atlas.specs.Moves.{back_along}
 use Rattle.tri_atlas.specs.Maps.{path_map}
 use Rattle.tri_atlas.specs.MapLaws.{MapLaws}

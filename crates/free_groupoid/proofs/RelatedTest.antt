@@ -1,12 +1,12 @@
 -- Two maps, the first with an inverse, are related exactly where they are alike at each test walk.
-use Rattle.std.proofs.Common.{ℕ, ℤ, pos, List, [], ◌∷◌, ◌++◌, ◌≡◌, ◌<◌, refl, sym, ◌∙◌, ap, subst, length, slice_index_or}
+use Rattle.std.proofs.Common.{ℕ, ℤ, pos, List, [], ◌∷◌, ◌++◌, ◌≡◌, ◌<◌, refl, sym, ◌∙◌, subst, length, slice_index_or}
 use Rattle.std.specs.List.{All, Contains, flat_map}
-use Rattle.ideal_tri.specs.Words.{inverse_word, reduce, cyclic_reduce, IsRotation}
+use Rattle.ideal_tri.specs.Words.{reduce, cyclic_reduce, IsRotation}
 use Rattle.ideal_tri.specs.Triangulations.{IsWalk, triangle_of}
 use Rattle.ideal_tri.specs.SurfaceLaws.{WalkLaws}
 use Rattle.tri_atlas.specs.Maps.{IsMap, after}
 use Rattle.free_groupoid.specs.TestWalks.{root_of_edge, loop, outer_edges, test_walks}
-use Rattle.free_groupoid.specs.Inner.{IsInner, IsKept}
+use Rattle.free_groupoid.specs.Inner.{IsKept}
 use Rattle.free_groupoid.specs.InnerLaws.{IsReducedLoop}
 use Rattle.free_groupoid.specs.Related.{IsRelated, AreAlikeAt}
 use Rattle.free_groupoid.specs.inside.InnerPaths.{inner_path}

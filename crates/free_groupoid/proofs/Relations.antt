@@ -1,12 +1,12 @@
 -- Related maps: the equation along walks, an equivalence, and what a map before or after both does.
-use Rattle.std.proofs.Common.{ℕ, ℤ, List, [], ◌∷◌, ◌++◌, ◌≡◌, ◌<◌, refl, sym, ◌∙◌, ap, subst, append_assoc, length}
+use Rattle.std.proofs.Common.{ℕ, ℤ, List, [], ◌∷◌, ◌++◌, ◌≡◌, refl, sym, ◌∙◌, ap, subst, append_assoc}
 use Rattle.std.specs.List.{flat_map}
 use Rattle.std.proofs.lemmas.List.{append-nil}
 use Rattle.std.proofs.lemmas.List.Concat.{flat_map-append}
 use Rattle.ideal_tri.specs.Labels.{inverse}
 use Rattle.ideal_tri.specs.Words.{inverse_word, reduce}
 use Rattle.ideal_tri.specs.WordLaws.{ReductionLaws}
-use Rattle.ideal_tri.specs.Triangulations.{IsLabel, IsWalk, triangle_of}
+use Rattle.ideal_tri.specs.Triangulations.{IsWalk, triangle_of}
 use Rattle.ideal_tri.specs.SurfaceLaws.{SurfaceLaws, WalkLaws}
 use Rattle.tri_atlas.specs.Maps.{IsMap, identity, after}
 use Rattle.tri_atlas.specs.MapLaws.{SubstitutionLaws}

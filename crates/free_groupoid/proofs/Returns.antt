@@ -1,9 +1,9 @@
 -- Maps that undo each other, on walks; and inner maps from related ones.
-use Rattle.std.proofs.Common.{ℕ, ℤ, List, [], ◌∷◌, ◌++◌, ◌≡◌, ◌<◌, refl, sym, ◌∙◌, ap, subst, length}
+use Rattle.std.proofs.Common.{ℕ, ℤ, List, [], ◌∷◌, ◌++◌, ◌≡◌, refl, sym, ◌∙◌, ap, subst}
 use Rattle.std.specs.List.{flat_map}
 use Rattle.std.proofs.lemmas.List.Concat.{flat_map-append}
 use Rattle.ideal_tri.specs.Labels.{inverse}
-use Rattle.ideal_tri.specs.Words.{inverse_word, reduce}
+use Rattle.ideal_tri.specs.Words.{reduce}
 use Rattle.ideal_tri.specs.WordLaws.{ReductionLaws}
 use Rattle.ideal_tri.specs.Triangulations.{IsTriangulation, IsLabel, IsWalk, triangle_of}
 use Rattle.ideal_tri.specs.SurfaceLaws.{WalkLaws}

@@ -1,5 +1,5 @@
 -- From a walk at each root that carries the loops to their images to a walk for each triangle.
-use Rattle.std.proofs.Common.{ℕ, ℤ, pos, negsuc, Bool, true, false, List, [], ◌∷◌, ◌++◌, ◌≡◌, ◌<◌, refl, sym, ◌∙◌, ap, subst, append_assoc, length}
+use Rattle.std.proofs.Common.{ℕ, ℤ, pos, negsuc, Bool, true, false, List, [], ◌∷◌, ◌++◌, ◌≡◌, ◌<◌, refl, sym, ◌∙◌, ap, append_assoc, length}
 use Rattle.std.specs.List.{flat_map}
 use Rattle.std.proofs.lemmas.List.{append-nil}
 use Rattle.std.proofs.lemmas.List.Concat.{flat_map-append}
@@ -39,8 +39,8 @@ module _ (triples : List (List ℤ)) (l : Laws triples) (f : ℤ → List ℤ) (
   -- the equation at a letter, from that of its loop
   letter_equation : (p : List ℤ) (x : ℤ) → reduce (p ++ flat_map f (loop triples x)) ≡ reduce (loop triples x ++ p)
       → reduce ((inverse_word (tree_walk triples (triangle_of triples x)) ++ (p ++ flat_map f (tree_walk triples (triangle_of triples x)))) ++ f x)
-          ≡ reduce (x ∷ (inverse_word (tree_walk triples (triangle_of triples (inverse x)))
-          ++ (p ++ flat_map f (tree_walk triples (triangle_of triples (inverse x))))))
+      ≡ reduce (x ∷ (inverse_word (tree_walk triples (triangle_of triples (inverse x)))
+      ++ (p ++ flat_map f (tree_walk triples (triangle_of triples (inverse x))))))
   letter_equation p x e =
       ap reduce
       (append_assoc (inverse_word here) (p ++ flat_map f here) (f x) ∙ ap (λ (z : List ℤ). inverse_word here ++ z) (append_assoc p (flat_map f here) (f x)))

@@ -1,32 +1,28 @@
 -- Where all test walks are kept, each component goes to itself, and a walk at its root carries all loops to their images.
-use Rattle.std.proofs.Common.{ℕ, ℤ, pos, List, [], ◌∷◌, ◌++◌, ◌≡◌, ◌≢◌, ◌<◌, ◌≤◌, refl, sym, ◌∙◌, ap, subst, append_assoc, arith, length, drop}
+use Rattle.std.proofs.Common.{ℕ, ℤ, pos, List, [], ◌∷◌, ◌++◌, ◌≡◌, ◌<◌, refl, sym, ◌∙◌, ap, subst, length}
 use Rattle.std.specs.List.{All, Contains, flat_map}
 use Rattle.std.proofs.lemmas.List.{append-nil}
 use Rattle.std.proofs.lemmas.List.Concat.{flat_map-append}
-use Rattle.std.proofs.lemmas.List.Elements.{All-append, All-contains, All-drop, All-head}
-use Rattle.ideal_tri.specs.Labels.{inverse, edge_of}
-use Rattle.ideal_tri.specs.Words.{inverse_word, reduce, cyclic_reduce, IsRotation}
-use Rattle.ideal_tri.specs.Triangulations.{IsLabel, IsWalk, triangle_of}
+use Rattle.std.proofs.lemmas.List.Elements.{All-append, All-contains, All-head}
+use Rattle.ideal_tri.specs.Labels.{inverse}
+use Rattle.ideal_tri.specs.Words.{reduce, cyclic_reduce, IsRotation}
+use Rattle.ideal_tri.specs.Triangulations.{IsWalk}
 use Rattle.tri_atlas.specs.Maps.{IsMap}
 use Rattle.free_groupoid.specs.TestWalks.{root_of, tree_walk, is_tree_edge, loop, outer_edges, edges_at, test_walks}
 use Rattle.free_groupoid.specs.Inner.{IsKept}
-use Rattle.free_groupoid.specs.inside.InnerPaths.{collapse, collapsed_image, second_half, shared, conjugator, root_path}
-use Rattle.free_groupoid.proofs.Letters.{edge_of-inverse, reduce-reduce, reduce-left, reduce-right}
+use Rattle.free_groupoid.specs.inside.InnerPaths.{collapse, collapsed_image}
+use Rattle.free_groupoid.proofs.Letters.{edge_of-inverse, reduce-reduce, reduce-right}
 use Rattle.free_groupoid.proofs.Sides.{inverse_label}
-use Rattle.free_groupoid.proofs.Members.{member_here, member_later}
-use Rattle.free_groupoid.proofs.Reduced.{All-parts, reduce-keeps}
+use Rattle.free_groupoid.proofs.Reduced.{All-parts}
 use Rattle.free_groupoid.proofs.Carrying.{Carries, carries-rotation, kept-carries}
-use Rattle.free_groupoid.proofs.Halves.{second_half_carries}
-use Rattle.free_groupoid.proofs.Shared.{shared_keeps}
-use Rattle.free_groupoid.proofs.Collapse.{IsOuter, collapsed-outer, collapse-trees, collapse-outer}
+use Rattle.free_groupoid.proofs.Collapse.{IsOuter, collapse-trees}
 use Rattle.free_groupoid.proofs.Loops.{Laws, loop_closed, loops_closed, collapse-loops}
-use Rattle.free_groupoid.proofs.Telescope.{IsIn, walk_component, collapse_injective}
+use Rattle.free_groupoid.proofs.Telescope.{IsIn, collapse_injective}
 use Rattle.free_groupoid.proofs.Relations.{map_walk}
-use Rattle.free_groupoid.proofs.OuterEdges.{Rise, edge_at_outer, edge_at_edge, outer_edge_at, edges_rise}
+use Rattle.free_groupoid.proofs.OuterEdges.{edge_at_outer, edge_at_edge, outer_edge_at}
 use Rattle.free_groupoid.proofs.TestLists.{loop_walk, loop_tested}
 use Rattle.free_groupoid.proofs.ClosedWords.{core_letters, loop_collapsed, empty_core}
 use Rattle.free_groupoid.proofs.RootPaths.{CarriesLoops, carries_loops}
-use Rattle.free_groupoid.proofs.Conjugators.{letter_carried, shared_serves}
 
 -- the inverse of an outer label is one
 pub outer_back : (triples : List (List ℤ)) (l : Laws triples) (r : ℕ) (x : ℤ) → IsOuter triples r x → IsOuter triples r (inverse x)

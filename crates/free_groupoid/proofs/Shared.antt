@@ -7,7 +7,6 @@
 -- letters of the edge of z. So no letter is left of h h'⁻¹, and h carries z too.
 use Rattle.std.proofs.Common.{ℤ, List, [], ◌∷◌, ◌++◌, ◌≡◌, ◌≢◌, refl, sym, ◌∙◌, ap, subst, append_assoc}
 use Rattle.std.specs.List.{All}
-use Rattle.std.proofs.lemmas.List.{append-nil}
 use Rattle.std.proofs.lemmas.List.Elements.{All-append}
 use Rattle.ideal_tri.specs.Labels.{inverse, edge_of}
 use Rattle.ideal_tri.specs.Words.{inverse_word, IsReduced, reduce}
@@ -15,7 +14,7 @@ use Rattle.ideal_tri.specs.WordLaws.{ReductionLaws, CyclicLaws}
 use Rattle.tri_atlas.specs.MapLaws.{SubstitutionLaws}
 use Rattle.free_groupoid.specs.inside.InnerPaths.{shared}
 use Rattle.free_groupoid.proofs.Letters.{edge_of-inverse, reduce-reduce, reduce-left, reduce-right}
-use Rattle.free_groupoid.proofs.Names.{+0, -0, +1, -1, +2, -2, +3, -3, +4, -4, +5, +6, -6, +7, -7, by_fact}
+use Rattle.free_groupoid.proofs.Names.{+0, +1, -1, +2, -2, +3, -3, +4, -4, +5, +6, -6, +7, -7, by_fact}
 use Rattle.free_groupoid.proofs.Carrying.{Carries}
 use Rattle.free_groupoid.proofs.Reduced.{All-parts, reduce-keeps, inverse_word-keeps}
 use Rattle.free_groupoid.proofs.Powers.{Only, no_letter, power_commutes}

@@ -1,6 +1,6 @@
 -- Each triangle of a triangulation has sides.
-use Rattle.std.proofs.Common.{ℕ, ℤ, pos, negsuc, zero, suc, Bool, true, false, List, [], ◌∷◌, ◌++◌, ◌≡◌, ◌<◌, ◌≤◌, ◌+◌, ◌||◌, inl, inr, refl, sym, ◌∙◌, ap, subst, arith, length, get_or, cond, nat_lt}
-use Rattle.std.specs.List.{All, count_by, list_any, flat_map}
+use Rattle.std.proofs.Common.{ℕ, ℤ, pos, negsuc, zero, suc, true, List, [], ◌∷◌, ◌≡◌, ◌<◌, ◌≤◌, ◌+◌, inl, inr, refl, ◌∙◌, ap, arith, length, get_or, cond, nat_lt}
+use Rattle.std.specs.List.{count_by}
 use Rattle.std.specs.Ordering.{int_eq}
 use Rattle.std.proofs.lemmas.Bool.{or_cases, or_left, ltb-true, cases_Bool, cond-true, cond-false}
 use Rattle.std.proofs.lemmas.Bool.Decides.{Decides-int_eq}

@@ -1,8 +1,8 @@
 -- The sides of a triangle in order are its labels, and no others.
-use Rattle.std.proofs.Common.{ℕ, ℤ, pos, negsuc, List, [], ◌∷◌, ◌≡◌, ◌<◌, ◌+◌, inl, inr, refl, sym, ◌∙◌, ap, subst, arith, length, nat_eq}
+use Rattle.std.proofs.Common.{ℕ, ℤ, pos, negsuc, List, [], ◌∷◌, ◌≡◌, ◌<◌, inl, inr, sym, ap, subst, arith, nat_eq}
 use Rattle.std.specs.List.{Contains, range_with_len}
 use Rattle.std.proofs.lemmas.Bool.{eq-eqb, eqb-true}
-use Rattle.ideal_tri.specs.Labels.{inverse, edge_of}
+use Rattle.ideal_tri.specs.Labels.{edge_of}
 use Rattle.ideal_tri.specs.Triangulations.{IsLabel, edge_count, triangle_of}
 use Rattle.free_groupoid.specs.TestWalks.{label_order, sides_in_order}
 use Rattle.free_groupoid.proofs.Members.{member_here, member_later, member_cases, no_member, member_filter, filter_member, member_range, range_member, member_flat_map, flat_map_member}

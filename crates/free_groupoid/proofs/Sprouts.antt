@@ -1,16 +1,16 @@
 -- A forest with a node added beyond a side, where the triangle there is new.
-use Rattle.std.proofs.Common.{ℕ, ℤ, Bool, true, false, List, [], ◌∷◌, ◌++◌, ◌≡◌, ◌≢◌, ◌<◌, ◌≤◌, ◌⊎◌, inl, inr, refl, sym, ◌∙◌, ap, subst, length, nat_eq}
+use Rattle.std.proofs.Common.{ℕ, ℤ, false, List, [], ◌∷◌, ◌++◌, ◌≡◌, ◌≢◌, ◌⊎◌, inl, inr, refl, sym, ◌∙◌, ap, subst}
 use Rattle.std.specs.List.{Contains}
 use Rattle.std.proofs.lemmas.Bool.{ne_eqb}
-use Rattle.std.proofs.lemmas.List.Elements.{Contains-append_left, Contains-push, Contains-push_cases}
+use Rattle.std.proofs.lemmas.List.Elements.{Contains-append_left, Contains-push}
 use Rattle.ideal_tri.specs.Labels.{inverse, edge_of}
-use Rattle.ideal_tri.specs.Triangulations.{IsLabel, IsWalk, triangle_of, next}
-use Rattle.ideal_tri.specs.SurfaceLaws.{TriangleLaws, WalkLaws}
-use Rattle.free_groupoid.specs.TestWalks.{Node, root_node, node_beyond, is_reached, ends_across}
-use Rattle.free_groupoid.proofs.Letters.{inverse-inverse, edge_of-inverse, two_labels, same_or_not}
+use Rattle.ideal_tri.specs.Triangulations.{IsLabel, triangle_of, next}
+use Rattle.ideal_tri.specs.SurfaceLaws.{TriangleLaws}
+use Rattle.free_groupoid.specs.TestWalks.{Node, node_beyond, is_reached}
+use Rattle.free_groupoid.proofs.Letters.{inverse-inverse, two_labels, same_or_not}
 use Rattle.free_groupoid.proofs.Sides.{inverse_label}
-use Rattle.free_groupoid.proofs.Nodes.{node_reaches, not_reached, is_crossed, still_uncrossed, ends_across-push}
-use Rattle.free_groupoid.proofs.Forests.{StandsBeyond, IsFree, AreFree, IsForest, uncrossed, free_reached}
+use Rattle.free_groupoid.proofs.Nodes.{not_reached, still_uncrossed, ends_across-push}
+use Rattle.free_groupoid.proofs.Forests.{IsFree, AreFree, IsForest, uncrossed, free_reached}
 
 -- a node of the forest, and a side of its triangle with a new triangle beyond
 pub record IsOpen (triples : List (List ℤ)) (nodes : List Node) (n : Node) (x : ℤ) : Type 0 where

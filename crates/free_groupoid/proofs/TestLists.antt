@@ -1,5 +1,5 @@
 -- The list of test walks: what it holds, and what holds of all of it.
-use Rattle.std.proofs.Common.{ℕ, ℤ, pos, List, [], ◌∷◌, ◌++◌, ◌≡◌, ◌≢◌, ◌⊎◌, inl, inr, refl, sym, ◌∙◌, ap, subst, length, map, nat_eq}
+use Rattle.std.proofs.Common.{ℕ, ℤ, pos, List, [], ◌∷◌, ◌++◌, ◌≡◌, ◌≢◌, ◌⊎◌, inl, inr, sym, ◌∙◌, ap, subst, map, nat_eq}
 use Rattle.std.specs.List.{All, Contains}
 use Rattle.std.proofs.lemmas.Bool.{eq-eqb, eqb-true}
 use Rattle.std.proofs.lemmas.List.Elements.{All-nil, All-append, All-map, All-weaker, All-contains_itself, Contains-append_left, Contains-append_right}
@@ -42,7 +42,7 @@ module _ (triples : List (List ℤ)) where
 
   pub each_test : (P : List ℤ → Type 0) → ((e : ℕ) → Contains (outer_edges triples) e → P (loop_walk e))
       → ((i j : ℕ) → Contains (outer_edges triples) i → Contains (outer_edges triples) j → root_of_edge triples j ≡ root_of_edge triples i
-          → P (product_walk i j))
+      → P (product_walk i j))
       → All P (test_walks triples)
   unfolding test_walks
   each_test P h k =

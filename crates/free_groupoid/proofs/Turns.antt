@@ -3,21 +3,18 @@
 -- A side whose other triangle is new gets a node there. Where the triangle has a node already, that node is of the same
 -- tree: if it waits, because all waiting nodes are; if it had its turn, because its own sides lead to nodes of its tree,
 -- one of them to the triangle of the node whose turn it is, and no two nodes are at one triangle.
-use Rattle.std.proofs.Common.{ℕ, ℤ, Bool, true, false, List, [], ◌∷◌, ◌++◌, ◌≡◌, ◌<◌, ◌≤◌, ◌+◌, ◌⊎◌, inl, inr, refl, sym, ◌∙◌, ap, subst, append_assoc, arith, length, length-append, cond}
+use Rattle.std.proofs.Common.{ℕ, ℤ, true, List, ◌∷◌, ◌++◌, ◌≡◌, ◌<◌, ◌≤◌, ◌+◌, ◌⊎◌, inl, inr, sym, ◌∙◌, ap, subst, length}
 use Rattle.std.specs.List.{Contains}
-use Rattle.std.proofs.lemmas.Bool.{cases_Bool, cond-true, cond-false, cases_lt, both_ways}
-use Rattle.std.proofs.lemmas.List.Elements.{Contains-append_left, Contains-push, Contains-push_cases, Contains-append_cases}
+use Rattle.std.proofs.lemmas.List.Elements.{Contains-append_left, Contains-append_cases}
 use Rattle.ideal_tri.specs.Labels.{inverse}
 use Rattle.ideal_tri.specs.Triangulations.{IsLabel, triangle_of}
 use Rattle.ideal_tri.specs.SurfaceLaws.{TriangleLaws, WalkLaws}
-use Rattle.free_groupoid.specs.TestWalks.{Node, node_beyond, is_reached, sprout}
+use Rattle.free_groupoid.specs.TestWalks.{Node, is_reached}
 use Rattle.free_groupoid.proofs.Letters.{inverse-inverse}
 use Rattle.free_groupoid.proofs.Sides.{inverse_label}
-use Rattle.free_groupoid.proofs.Members.{member_here, member_later, member_cases, no_member}
-use Rattle.free_groupoid.proofs.Nodes.{reaching_node, still_reached, missing, missing-new}
+use Rattle.free_groupoid.proofs.Members.{member_here, member_later, member_cases}
+use Rattle.free_groupoid.proofs.Nodes.{reaching_node, missing}
 use Rattle.free_groupoid.proofs.Forests.{IsForest}
-use Rattle.free_groupoid.proofs.Sprouts.{IsOpen, sprouted}
-use Rattle.free_groupoid.proofs.Additions.{sprouted_forest}
 
 -- the triangle beyond the side x has a node in the tree of n
 pub record IsBeyond (triples : List (List ℤ)) (nodes : List Node) (n : Node) (x : ℤ) : Type 0 where

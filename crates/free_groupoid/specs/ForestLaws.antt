@@ -2,7 +2,7 @@
 use Rattle.std.specs.Prelude.{◌≡◌, ◌≢◌, ◌<◌, ◌≤◌, ◌++◌, ℕ, ℤ, true, List, [], ◌∷◌, length, All, Contains}
 use Rattle.ideal_tri.specs.Labels.{inverse, edge_of}
 use Rattle.ideal_tri.specs.Words.{reduce}
-use Rattle.ideal_tri.specs.Triangulations.{IsTriangulation, IsLabel, IsWalk, triangle_of}
+use Rattle.ideal_tri.specs.Triangulations.{IsLabel, IsWalk, triangle_of}
 use Rattle.free_groupoid.specs.TestWalks.{root_of, tree_walk, is_tree_edge, outer_edges, edges_at}
 
 -- each triangle is reached from the least triangle of its component, across tree edges alone; and

@@ -1,8 +1,8 @@
 -- What holds of related maps.
-use Rattle.std.specs.Prelude.{◌≡◌, ◌<◌, ◌++◌, ℕ, ℤ, List, [], ◌∷◌, length, All}
+use Rattle.std.specs.Prelude.{◌≡◌, ◌<◌, ◌++◌, ℕ, ℤ, List, [], length, All}
 use Rattle.std.specs.List.{flat_map}
 use Rattle.ideal_tri.specs.Words.{inverse_word, reduce}
-use Rattle.ideal_tri.specs.Triangulations.{IsTriangulation, IsLabel}
+use Rattle.ideal_tri.specs.Triangulations.{IsTriangulation}
 use Rattle.tri_atlas.specs.Moves.{Move, ArePath}
 use Rattle.tri_atlas.specs.Maps.{IsMap, identity, after, path_map}
 use Rattle.free_groupoid.specs.TestWalks.{test_walks}

@@ -1,5 +1,5 @@
 -- The walks that make a map inner, computed from the images of the loops of a spanning forest.
-use Rattle.std.specs.Prelude.{◌++◌, ◌+◌, ◌/◌, ◌<◌, ℕ, ℤ, pos, Bool, List, [], ◌∷◌, length, drop, nat_lt, nat_eq, if◌then◌else◌, not, ◌&&◌}
+use Rattle.std.specs.Prelude.{◌++◌, ◌+◌, ◌/◌, ℕ, ℤ, pos, Bool, List, [], ◌∷◌, length, drop, nat_lt, nat_eq, if◌then◌else◌, not, ◌&&◌}
 use Rattle.std.specs.List.{flat_map, take_while}
 use Rattle.ideal_tri.specs.Labels.{edge_of}
 use Rattle.ideal_tri.specs.Words.{inverse_word, reduce}
