@@ -4,9 +4,9 @@ use Rattle.std.specs.List.{Contains}
 use Rattle.std.proofs.lemmas.List.Elements.{Contains-append_left, Contains-push, Contains-push_cases}
 use Rattle.ideal_tri.specs.Labels.{inverse, edge_of}
 use Rattle.ideal_tri.specs.Triangulations.{IsLabel, IsWalk, triangle_of, next, previous}
-use Rattle.ideal_tri.specs.SurfaceLaws.{TriangleLaws, WalkLaws}
 use Rattle.free_groupoid.specs.TestWalks.{Node, root_node, node_beyond, is_reached}
-use Rattle.free_groupoid.proofs.Sides.{inverse_label, SideOf}
+use Rattle.free_groupoid.proofs.Known.{Glued}
+use Rattle.free_groupoid.proofs.Sides.{SideOf}
 use Rattle.free_groupoid.proofs.Nodes.{not_reached, still_uncrossed}
 use Rattle.free_groupoid.proofs.Members.{no_member}
 use Rattle.free_groupoid.proofs.Forests.{StandsBeyond, IsFree, AreFree, IsForest, uncrossed}
@@ -44,16 +44,16 @@ still_comes triples nodes new n (inr b) =
       is = b.is;
     })
 
-module _ (triples : List (List ℤ)) (t : TriangleLaws triples) (w : WalkLaws triples) (nodes : List Node) (f : IsForest triples nodes) where
+module _ (triples : List (List ℤ)) (glue : Glued triples) (nodes : List Node) (f : IsForest triples nodes) where
   -- ---- a node beyond a side
 
   pub sprouted_forest : (n : Node) (x : ℤ) → IsOpen triples nodes n x → n.root ≤ triangle_of triples (inverse x)
       → IsForest triples (sprouted triples nodes n x)
   sprouted_forest n x o below = record {
-    inside = each_node (λ m. m.triangle < length triples) nodes new f.inside (t.triangle (inverse x) (inverse_label triples x o.label));
+    inside = each_node (λ m. m.triangle < length triples) nodes new f.inside (glue.triangles.triangle (inverse x) (glue.known.labels.label triples x o.label));
     walk =
         each_node (λ m. IsWalk triples m.root m.walk m.triangle) nodes new f.walk
-        (w.join n.root n.triangle (triangle_of triples (inverse x)) n.walk (x ∷ []) (f.walk n o.there) (o.label, o.at, refl));
+        (glue.walks.join n.root n.triangle (triangle_of triples (inverse x)) n.walk (x ∷ []) (f.walk n o.there) (o.label, o.at, refl));
     least = each_node (λ m. m.root ≤ m.triangle) nodes new f.least below;
     one = still_one nodes new f.one o.new;
     comes =
@@ -69,8 +69,8 @@ module _ (triples : List (List ℤ)) (t : TriangleLaws triples) (w : WalkLaws tr
         }));
     three =
         each_node (λ m. AreFree triples (sprouted triples nodes n x) m.root) nodes new
-        (λ m h. still_three triples t nodes f n x o m.root (f.three m h))
-        (still_three triples t nodes f n x o n.root (f.three n o.there));
+        (λ m h. still_three triples glue nodes f n x o m.root (f.three m h))
+        (still_three triples glue nodes f n x o n.root (f.three n o.there));
   }
     where
       new : Node
@@ -112,25 +112,25 @@ module _ (triples : List (List ℤ)) (t : TriangleLaws triples) (w : WalkLaws tr
       there = Contains-push nodes (root_node r);
       at = sym at;
       root = refl;
-      free = still_uncrossed nodes (root_node r) (edge_of a) (uncrossed triples nodes a f (ap (is_reached nodes) at ∙ new)) refl;
+      free = still_uncrossed nodes (root_node r) (edge_of a) (uncrossed triples glue nodes a f (ap (is_reached nodes) at ∙ new)) refl;
     }
 
     -- the three sides of the root
     sides_free : AreFree triples with_root r
     sides_free =
-        let second : IsLabel triples (next triples s.side) = t.label s.side s.label in
-        let third : IsLabel triples (previous triples s.side) = t.label (next triples s.side) second in
-        let at_second : triangle_of triples (next triples s.side) ≡ r = t.stays s.side s.label ∙ s.at in
+        let second : IsLabel triples (next triples s.side) = glue.triangles.label s.side s.label in
+        let third : IsLabel triples (previous triples s.side) = glue.triangles.label (next triples s.side) second in
+        let at_second : triangle_of triples (next triples s.side) ≡ r = glue.triangles.stays s.side s.label ∙ s.at in
         record {
           a = s.side;
           b = next triples s.side;
           c = previous triples s.side;
           free_a = side_free s.side s.label s.at;
           free_b = side_free (next triples s.side) second at_second;
-          free_c = side_free (previous triples s.side) third (t.stays (next triples s.side) second ∙ at_second);
-          a_b = λ e. (t.moves s.side s.label).0 (sym e);
-          a_c = λ e. (t.moves s.side s.label).1 (sym e);
-          b_c = λ e. (t.moves (next triples s.side) second).0 (sym e);
+          free_c = side_free (previous triples s.side) third (glue.triangles.stays (next triples s.side) second ∙ at_second);
+          a_b = λ e. (glue.triangles.moves s.side s.label).0 (sym e);
+          a_c = λ e. (glue.triangles.moves s.side s.label).1 (sym e);
+          b_c = λ e. (glue.triangles.moves (next triples s.side) second).0 (sym e);
         }
 
     pub planted_forest : IsForest triples with_root

@@ -7,9 +7,7 @@ use Rattle.std.proofs.Common.{ℤ, List, [], ◌∷◌, ◌++◌, ◌≡◌, ◌
 use Rattle.std.proofs.lemmas.List.{append-nil}
 use Rattle.ideal_tri.specs.Labels.{edge_of}
 use Rattle.ideal_tri.specs.Words.{inverse_word, IsReduced, reduce}
-use Rattle.ideal_tri.specs.WordLaws.{ReductionLaws, CyclicLaws}
-use Rattle.tri_atlas.specs.MapLaws.{SubstitutionLaws}
-use Rattle.free_groupoid.proofs.Letters.{reduce-reduce}
+use Rattle.free_groupoid.proofs.Known.{Known}
 use Rattle.free_groupoid.proofs.Names.{+0, +1, -1, +2, -2, by_fact}
 use Rattle.free_groupoid.proofs.Carrying.{Carries}
 use Rattle.free_groupoid.proofs.Reduced.{IsReduced-front, IsReduced-back}
@@ -18,12 +16,12 @@ use Rattle.free_groupoid.proofs.Splits.{front, front_split}
 use Rattle.free_groupoid.proofs.PowerSplit.{power_split}
 use Rattle.free_groupoid.proofs.Shared.{carries_by}
 
-module _ (r : ReductionLaws) (s : SubstitutionLaws) (c : CyclicLaws) where
+module _ (known : Known) where
   -- p w and p commute with x, so w does
   rest_commutes : (x : ℤ) (p w : List ℤ) → Carries p (x ∷ []) (x ∷ []) → Carries (p ++ w) (x ∷ []) (x ∷ []) → Carries w (x ∷ []) (x ∷ [])
   rest_commutes x p w front whole =
-      by_fact r s names (+0 ∷ +2 ∷ []) (-1 ∷ +0 ∷ +1 ∷ +2 ∷ []) (-1 ∷ []) (+1 ∷ +0 ∷ []) (+0 ∷ +1 ∷ []) (+2 ∷ []) refl (sym front) refl
-      ∙ by_fact r s names (-1 ∷ +0 ∷ +1 ∷ +2 ∷ []) (+2 ∷ +0 ∷ []) (-1 ∷ []) (+0 ∷ +1 ∷ +2 ∷ []) (+1 ∷ +2 ∷ +0 ∷ []) [] refl
+      by_fact known names (+0 ∷ +2 ∷ []) (-1 ∷ +0 ∷ +1 ∷ +2 ∷ []) (-1 ∷ []) (+1 ∷ +0 ∷ []) (+0 ∷ +1 ∷ []) (+2 ∷ []) refl (sym front) refl
+      ∙ by_fact known names (-1 ∷ +0 ∷ +1 ∷ +2 ∷ []) (+2 ∷ +0 ∷ []) (-1 ∷ []) (+0 ∷ +1 ∷ +2 ∷ []) (+1 ∷ +2 ∷ +0 ∷ []) [] refl
       (whole ∙ ap reduce (append_assoc p w (x ∷ []))) refl
     where
       names : List (List ℤ)
@@ -37,20 +35,20 @@ module _ (r : ReductionLaws) (s : SubstitutionLaws) (c : CyclicLaws) where
       let parts_reduced : IsReduced (p ++ split.rest) = subst IsReduced split.parts reduced in
       let pair : Carries [] (x ∷ (u ++ (y ∷ inverse_word u))) (x ∷ (y ∷ [])) =
       ap reduce (append-nil (x ∷ (u ++ (y ∷ inverse_word u))))
-      ∙ by_fact r s ((x ∷ []) ∷ (y ∷ []) ∷ u ∷ []) (+0 ∷ +2 ∷ +1 ∷ -2 ∷ []) (+0 ∷ +1 ∷ []) (+0 ∷ []) (+2 ∷ +1 ∷ []) (+1 ∷ +2 ∷ []) (-2 ∷ []) refl (sym with_y) refl in
+      ∙ by_fact known ((x ∷ []) ∷ (y ∷ []) ∷ u ∷ []) (+0 ∷ +2 ∷ +1 ∷ -2 ∷ []) (+0 ∷ +1 ∷ []) (+0 ∷ []) (+2 ∷ +1 ∷ []) (+1 ∷ +2 ∷ []) (-2 ∷ []) refl (sym with_y) refl in
       let only_y : Only y split.rest =
-      power_split r s c x y p split.rest [] n parts_reduced split.only split.apart
+      power_split known x y p split.rest [] n parts_reduced split.only split.apart
       (subst (λ (z : List ℤ). Carries [] (x ∷ (z ++ (y ∷ inverse_word z))) (x ∷ (y ∷ []))) split.parts pair) in
       let no_rest : split.rest ≡ [] =
-      power_alone r s x y split.rest n only_y (IsReduced-back p split.rest parts_reduced)
-      (rest_commutes x p split.rest (power_commutes r s x p split.only) (subst (λ (z : List ℤ). Carries z (x ∷ []) (x ∷ [])) split.parts with_x)) in
+      power_alone known x y split.rest n only_y (IsReduced-back p split.rest parts_reduced)
+      (rest_commutes x p split.rest (power_commutes known x p split.only) (subst (λ (z : List ℤ). Carries z (x ∷ []) (x ∷ [])) split.parts with_x)) in
       let all_front : u ≡ p = split.parts ∙ ap (λ (z : List ℤ). p ++ z) no_rest ∙ append-nil p in
       all_front
-      ∙ power_alone r s y x p (λ e. n (sym e)) split.only (IsReduced-front p split.rest parts_reduced)
+      ∙ power_alone known y x p (λ e. n (sym e)) split.only (IsReduced-front p split.rest parts_reduced)
       (subst (λ (z : List ℤ). Carries z (y ∷ []) (y ∷ [])) all_front with_y)
 
   pub centraliser : (x y : ℤ) (q : List ℤ) → edge_of x ≢ edge_of y → Carries q (x ∷ []) (x ∷ []) → Carries q (y ∷ []) (y ∷ []) → reduce q ≡ []
   centraliser x y q n with_x with_y =
-      centraliser_reduced x y (reduce q) n (r.is_reduced q)
-      (carries_by r q (reduce q) (x ∷ []) (x ∷ []) (sym (reduce-reduce r q)) with_x)
-      (carries_by r q (reduce q) (y ∷ []) (y ∷ []) (sym (reduce-reduce r q)) with_y)
+      centraliser_reduced x y (reduce q) n (known.words.reduction.is_reduced q)
+      (carries_by known q (reduce q) (x ∷ []) (x ∷ []) (sym (known.words.reduction.twice q)) with_x)
+      (carries_by known q (reduce q) (y ∷ []) (y ∷ []) (sym (known.words.reduction.twice q)) with_y)

@@ -4,17 +4,17 @@ use Rattle.std.specs.List.{All, Contains, flat_map}
 use Rattle.std.proofs.lemmas.List.{append-nil}
 use Rattle.std.proofs.lemmas.List.Concat.{flat_map-append}
 use Rattle.ideal_tri.specs.Labels.{inverse}
-use Rattle.ideal_tri.specs.Words.{inverse_word, reduce, cyclic_reduce, IsReduced, IsCyclicallyReduced}
+use Rattle.ideal_tri.specs.Words.{inverse_word, reduce, cyclic_reduce, IsReduced, IsCyclicallyReduced, IsRotation}
 use Rattle.ideal_tri.specs.Triangulations.{IsWalk, triangle_of}
 use Rattle.free_groupoid.specs.TestWalks.{root_of, outer_edges, root_of_edge, loop, test_walks}
 use Rattle.free_groupoid.specs.InnerLaws.{IsReducedLoop}
 use Rattle.free_groupoid.specs.inside.InnerPaths.{collapse}
-use Rattle.free_groupoid.proofs.Letters.{inverse_word-inverse_word}
 use Rattle.free_groupoid.proofs.Names.{+0, -0, +1, by_fact}
 use Rattle.free_groupoid.proofs.Reduced.{All-parts}
-use Rattle.free_groupoid.proofs.Carrying.{Carries, carries_image, rotation-carries, rotation_same}
+use Rattle.free_groupoid.proofs.Carrying.{Carries, carries_image, rotation-carries}
 use Rattle.free_groupoid.proofs.Collapse.{IsOuter, collapse-odd, collapse-outer}
-use Rattle.free_groupoid.proofs.Loops.{Laws, loop_closed, collapse-loop}
+use Rattle.free_groupoid.proofs.Known.{Laws}
+use Rattle.free_groupoid.proofs.Loops.{loop_closed, collapse-loop}
 use Rattle.free_groupoid.proofs.Telescope.{IsIn, walk_letters}
 use Rattle.free_groupoid.proofs.OuterEdges.{edge_outer}
 use Rattle.free_groupoid.proofs.TestLists.{each_test}
@@ -44,20 +44,20 @@ module _ (triples : List (List ℤ)) (l : Laws triples) where
   -- it is a closed walk from some triangle
   pub closed_core : (s : ℕ) (w : List ℤ) → IsWalk triples s w s → (t : ℕ) × IsWalk triples t (cyclic_reduce w) t
   closed_core s w walk =
-      let (p, shape) = l.cyclic.shape w in
+      let (p, shape) = l.known.words.cyclic.shape w in
       let reduced : IsWalk triples s (p ++ (cyclic_reduce w ++ inverse_word p)) s =
       subst (λ (z : List ℤ). IsWalk triples s z s) shape (l.walks.reduced s s w walk) in
       let outer = split_walk triples s s p (cyclic_reduce w ++ inverse_word p) reduced in
       let inner = split_walk triples outer.middle s (cyclic_reduce w) (inverse_word p) outer.second in
       let back : IsWalk triples s p inner.middle =
-      subst (λ (z : List ℤ). IsWalk triples s z inner.middle) (inverse_word-inverse_word p) (l.walks.back inner.middle s (inverse_word p) inner.second) in
+      subst (λ (z : List ℤ). IsWalk triples s z inner.middle) (l.known.words.inverses.twice p) (l.walks.back inner.middle s (inverse_word p) inner.second) in
       let same : inner.middle ≡ outer.middle = one_end triples s inner.middle outer.middle p back outer.first in
       (outer.middle, subst (λ (i : ℕ). IsWalk triples outer.middle (cyclic_reduce w) i) same inner.first)
 
   -- its letters are of the component where the walk starts
   pub core_letters : (r s t : ℕ) (w : List ℤ) → root_of triples s ≡ r → IsWalk triples s w t → All (IsIn triples l r) (cyclic_reduce w)
   core_letters r s t w root walk =
-      let (p, shape) = l.cyclic.shape w in
+      let (p, shape) = l.known.words.cyclic.shape w in
       let all : All (IsIn triples l r) (p ++ (cyclic_reduce w ++ inverse_word p)) =
       subst (All (IsIn triples l r)) shape (walk_letters triples l r s t (reduce w) root (l.walks.reduced s t w walk)) in
       (All-parts (IsIn triples l r) (cyclic_reduce w) (inverse_word p) (All-parts (IsIn triples l r) p (cyclic_reduce w ++ inverse_word p) all).1).0
@@ -65,10 +65,10 @@ module _ (triples : List (List ℤ)) (l : Laws triples) where
   -- where it is empty, the walk collapses to nothing
   pub empty_core : (r : ℕ) (w : List ℤ) → cyclic_reduce w ≡ [] → reduce (flat_map (collapse triples r) w) ≡ []
   empty_core r w e =
-      let (q, carries) = rotation-carries l.reduction l.substitution l.cyclic w [] (rotation_same (cyclic_reduce w) (cyclic_reduce []) (e ∙ sym (l.cyclic.fixed [] tt))) in
+      let (q, carries) = rotation-carries l.known w [] (subst (IsRotation (cyclic_reduce w)) (e ∙ sym (l.known.words.cyclic.fixed [] tt)) (l.known.words.rotations.same (cyclic_reduce w))) in
       let image : Carries (flat_map (collapse triples r) q) (flat_map (collapse triples r) w) [] =
-      carries_image l.reduction l.substitution (collapse triples r) q w [] (collapse-odd triples r) carries in
-      by_fact l.reduction l.substitution (flat_map (collapse triples r) q ∷ flat_map (collapse triples r) w ∷ []) (+1 ∷ []) [] [] (+1 ∷ +0 ∷ []) (+0 ∷ []) (-0 ∷ [])
+      carries_image l.known (collapse triples r) q w [] (collapse-odd l.known triples r) carries in
+      by_fact l.known (flat_map (collapse triples r) q ∷ flat_map (collapse triples r) w ∷ []) (+1 ∷ []) [] [] (+1 ∷ +0 ∷ []) (+0 ∷ []) (-0 ∷ [])
       refl (image ∙ ap reduce (append-nil (flat_map (collapse triples r) q))) refl
 
   -- ---- test walks
@@ -91,12 +91,12 @@ module _ (triples : List (List ℤ)) (l : Laws triples) where
   reduced_loop : (r s : ℕ) (w : List ℤ) (x : ℤ) (rest : List ℤ) → IsWalk triples s w s → flat_map (collapse triples r) w ≡ x ∷ rest
       → IsReduced (x ∷ rest) → IsReducedLoop triples (cyclic_reduce w)
   reduced_loop r s w x rest walk collapsed reduced =
-      go (cyclic_reduce w) refl (closed_core s w walk) (l.cyclic.is_reduced w)
+      go (cyclic_reduce w) refl (closed_core s w walk) (l.known.words.cyclic.is_reduced w)
     where
       go : (v : List ℤ) → cyclic_reduce w ≡ v → (t : ℕ) × IsWalk triples t (cyclic_reduce w) t → IsCyclicallyReduced (cyclic_reduce w)
           → IsReducedLoop triples (cyclic_reduce w)
       go [] e (t, h) c =
-          let nothing : x ∷ rest ≡ [] = sym (l.reduction.fixed (x ∷ rest) reduced) ∙ ap reduce (sym collapsed) ∙ empty_core r w e in
+          let nothing : x ∷ rest ≡ [] = sym (l.known.words.reduction.fixed (x ∷ rest) reduced) ∙ ap reduce (sym collapsed) ∙ empty_core r w e in
           absurd (cc)
       go (y ∷ v) e (t, h) c =
           let walk_at : IsWalk triples t (y ∷ v) t = subst (λ (z : List ℤ). IsWalk triples t z t) e h in

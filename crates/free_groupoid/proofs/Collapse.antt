@@ -10,7 +10,7 @@ use Rattle.tri_atlas.specs.Maps.{IsOdd}
 use Rattle.free_groupoid.specs.TestWalks.{root_of, is_tree_edge, root_of_edge}
 use Rattle.free_groupoid.specs.ForestLaws.{ForestLaws}
 use Rattle.free_groupoid.specs.inside.InnerPaths.{is_outer_at, collapse}
-use Rattle.free_groupoid.proofs.Letters.{edge_of-inverse}
+use Rattle.free_groupoid.proofs.Known.{Known}
 use Rattle.free_groupoid.proofs.ForestLaws.{edge_component}
 
 -- a label of the component of the root r, whose edge lies outside the forest
@@ -21,9 +21,9 @@ pub record IsOuter (triples : List (List ℤ)) (r : ℕ) (x : ℤ) : Type 0 wher
 
 -- ---- one letter
 
-pub collapse-odd : (triples : List (List ℤ)) (r : ℕ) → IsOdd (collapse triples r)
-collapse-odd triples r x =
-    ap (λ (e : ℕ). cond (is_outer_at triples r e) (inverse x ∷ []) []) (edge_of-inverse x) ∙ go (is_outer_at triples r (edge_of x))
+pub collapse-odd : Known → (triples : List (List ℤ)) (r : ℕ) → IsOdd (collapse triples r)
+collapse-odd known triples r x =
+    ap (λ (e : ℕ). cond (is_outer_at triples r e) (inverse x ∷ []) []) (known.labels.edge x) ∙ go (is_outer_at triples r (edge_of x))
   where
     go : (b : Bool) → cond b (inverse x ∷ []) [] ≡ inverse_word (cond b (x ∷ []) [])
     go true = refl

@@ -12,7 +12,7 @@ use Rattle.free_groupoid.proofs.Carrying.{Carries}
 use Rattle.free_groupoid.proofs.Halves.{second_half_carries}
 use Rattle.free_groupoid.proofs.Shared.{shared_keeps}
 use Rattle.free_groupoid.proofs.Collapse.{IsOuter, collapsed-outer}
-use Rattle.free_groupoid.proofs.Loops.{Laws}
+use Rattle.free_groupoid.proofs.Known.{Laws}
 use Rattle.free_groupoid.proofs.Telescope.{walk_component}
 use Rattle.free_groupoid.proofs.OuterEdges.{Rise, edges_rise}
 use Rattle.free_groupoid.proofs.RootPaths.{CarriesLoops, inner_from_roots}
@@ -38,13 +38,13 @@ module _ (triples : List (List ℤ)) (l : Laws triples) (f : ℤ → List ℤ) (
     half_serves : (e : ℕ) → Contains edges e → Carries (second_half (collapsed_image triples f r e)) (pos e ∷ []) (collapsed_image triples f r e)
     half_serves e h =
         let (q, carries) = letter_carried triples l f f0 m kept r e h in
-        second_half_carries l.reduction l.substitution l.cyclic (pos e) q (collapsed_image triples f r e)
-        (l.reduction.is_reduced (flat_map (collapse triples r) (flat_map f (loop triples (pos e))))) carries
+        second_half_carries l.known (pos e) q (collapsed_image triples f r e)
+        (l.known.words.reduction.is_reduced (flat_map (collapse triples r) (flat_map f (loop triples (pos e))))) carries
 
     half_outer : (e : ℕ) → All (IsOuter triples r) (second_half (collapsed_image triples f r e))
     half_outer e =
         All-drop (IsOuter triples r) ((length (collapsed_image triples f r e) + 1) / 2) (collapsed_image triples f r e)
-        (reduce-keeps (IsOuter triples r) l.reduction (flat_map (collapse triples r) (flat_map f (loop triples (pos e))))
+        (reduce-keeps (IsOuter triples r) l.known (flat_map (collapse triples r) (flat_map f (loop triples (pos e))))
         (collapsed-outer triples l.forest r (flat_map f (loop triples (pos e)))))
 
     -- the word that is computed is made of outer letters, and serves
@@ -56,7 +56,7 @@ module _ (triples : List (List ℤ)) (l : Laws triples) (f : ℤ → List ℤ) (
         → Serves (shared (pos i) (second_half (collapsed_image triples f r i)) (second_half (collapsed_image triples f r j)))
     two_serve i j ne h k = record {
       outer =
-          shared_keeps l.reduction l.substitution l.cyclic (IsOuter triples r) (outer_back triples l r) (pos i)
+          shared_keeps l.known (IsOuter triples r) (outer_back triples l r) (pos i)
           (second_half (collapsed_image triples f r i)) (second_half (collapsed_image triples f r j)) (half_outer i) (half_outer j);
       carries =
           shared_serves triples l f f0 m kept r i j (second_half (collapsed_image triples f r i)) (second_half (collapsed_image triples f r j)) ne h k

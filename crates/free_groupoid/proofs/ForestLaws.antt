@@ -5,10 +5,9 @@ use Rattle.std.proofs.lemmas.Bool.{cases_eq, eq-eqb, not_from_false}
 use Rattle.ideal_tri.specs.Labels.{inverse, edge_of}
 use Rattle.ideal_tri.specs.WordLaws.{ReductionLaws}
 use Rattle.ideal_tri.specs.Triangulations.{IsTriangulation, IsLabel, edge_count, triangle_of}
-use Rattle.ideal_tri.specs.SurfaceLaws.{TriangleLaws, WalkLaws}
 use Rattle.free_groupoid.specs.TestWalks.{Node, node_at, forest, root_of, tree_walk, is_tree_edge, outer_edges, root_of_edge, edges_at}
 use Rattle.free_groupoid.specs.ForestLaws.{ForestLaws}
-use Rattle.free_groupoid.proofs.Letters.{two_labels}
+use Rattle.free_groupoid.proofs.Known.{Glued}
 use Rattle.free_groupoid.proofs.Members.{member_filter, member_range}
 use Rattle.free_groupoid.proofs.Forests.{IsFree, AreFree}
 use Rattle.free_groupoid.proofs.ForestNodes.{only_node, node_is_at, node_walk, node_least, node_component, node_letters, node_across}
@@ -21,13 +20,13 @@ pub edge_component : (triples : List (List ℤ))
 edge_component triples component (pos n) label = refl
 edge_component triples component (negsuc n) label = sym (component (pos n) label)
 
-module _ (triples : List (List ℤ)) (tri : IsTriangulation triples) (t : TriangleLaws triples) (w : WalkLaws triples) where
+module _ (triples : List (List ℤ)) (glue : Glued triples) where
   grown : IsGrown triples (length triples) (forest triples)
-  grown = forest_grown triples tri t w
+  grown = forest_grown triples glue
 
   component : (x : ℤ) → IsLabel triples x → root_of triples (triangle_of triples (inverse x)) ≡ root_of triples (triangle_of triples x)
   unfolding root_of
-  component x label = node_component triples t (forest triples) grown x label
+  component x label = node_component triples glue (forest triples) grown x label
 
   -- the edge of a free label
   free_outer : (r : ℕ) (x : ℤ) → IsFree triples (forest triples) r x → Contains (edges_at triples r (outer_edges triples)) (edge_of x)
@@ -39,7 +38,7 @@ module _ (triples : List (List ℤ)) (tri : IsTriangulation triples) (t : Triang
       (not_from_false (is_tree_edge triples (edge_of x)) h.free))
       (eq-eqb (root_of_edge triples (edge_of x)) r
       (edge_component triples component x h.label
-      ∙ ap (λ (m : Node). m.root) (only_node triples t (forest triples) grown h.node (triangle_of triples x) h.there h.at)
+      ∙ ap (λ (m : Node). m.root) (only_node triples glue (forest triples) grown h.node (triangle_of triples x) h.there h.at)
       ∙ h.root))
 
   -- of three labels two are of different edges
@@ -54,26 +53,26 @@ module _ (triples : List (List ℤ)) (tri : IsTriangulation triples) (t : Triang
       -- the third label is neither the first nor the second
       third : edge_of h.a ≡ edge_of h.b → edge_of h.a ≢ edge_of h.c
       third e f =
-          elim (two_labels h.b h.a (sym e)) [
+          elim (glue.known.labels.of_edge h.b h.a (sym e)) [
             | inl same ↦ h.a_b (sym same)
             | inr turned ↦
-                elim (two_labels h.c h.a (sym f)) [
+                elim (glue.known.labels.of_edge h.c h.a (sym f)) [
                   | inl same ↦ h.a_c (sym same)
                   | inr again ↦ h.b_c (turned ∙ sym again)
                 ]
           ]
 
-  pub forest_laws : ReductionLaws → ForestLaws triples
+  pub forest_laws : ForestLaws triples
   unfolding root_of tree_walk is_tree_edge
-  forest_laws r = record {
-    walk = λ i below. node_walk triples t (forest triples) grown i below;
-    least = λ i below. node_least triples t (forest triples) grown i below;
+  forest_laws = record {
+    walk = λ i below. node_walk triples glue (forest triples) grown i below;
+    least = λ i below. node_least triples glue (forest triples) grown i below;
     component = component;
     letters = λ i below.
-        node_letters triples t (forest triples) grown (length (node_at (forest triples) i).walk) (node_at (forest triples) i) (omega arith)
-        (node_is_at triples t (forest triples) grown i below).there;
-    across = λ x label h. node_across triples t (forest triples) grown r x h;
+        node_letters triples glue (forest triples) grown (length (node_at (forest triples) i).walk) (node_at (forest triples) i) (omega arith)
+        (node_is_at triples glue (forest triples) grown i below).there;
+    across = λ x label h. node_across triples glue (forest triples) grown x h;
     outside = λ i below.
         two_free (node_at (forest triples) i).root
-        (grown.forest.three (node_at (forest triples) i) (node_is_at triples t (forest triples) grown i below).there);
+        (grown.forest.three (node_at (forest triples) i) (node_is_at triples glue (forest triples) grown i below).there);
   }

@@ -8,9 +8,8 @@ use Rattle.ideal_tri.specs.Labels.{inverse, edge_of}
 use Rattle.ideal_tri.specs.Words.{reduce}
 use Rattle.ideal_tri.specs.WordLaws.{ReductionLaws}
 use Rattle.ideal_tri.specs.Triangulations.{IsLabel, IsWalk, triangle_of}
-use Rattle.ideal_tri.specs.SurfaceLaws.{TriangleLaws}
 use Rattle.free_groupoid.specs.TestWalks.{Node, root_node, node_at, is_reached, ends_across}
-use Rattle.free_groupoid.proofs.Letters.{inverse-inverse, two_labels}
+use Rattle.free_groupoid.proofs.Known.{Glued}
 use Rattle.free_groupoid.proofs.Members.{member_here, member_later}
 use Rattle.free_groupoid.proofs.Nodes.{is_crossed, crossed_by, crossing_node, ends_across-push}
 use Rattle.free_groupoid.proofs.Forests.{StandsBeyond}
@@ -36,7 +35,7 @@ found (n ∷ nodes) t h =
           (record { there = member_later n nodes (node_at nodes t) rest.there; at = rest.at }))
     ]
 
-module _ (triples : List (List ℤ)) (t : TriangleLaws triples) (nodes : List Node) (g : IsGrown triples (length triples) nodes) where
+module _ (triples : List (List ℤ)) (glue : Glued triples) (nodes : List Node) (g : IsGrown triples (length triples) nodes) where
   pub node_is_at : (i : ℕ) → i < length triples → IsNodeAt nodes i (node_at nodes i)
   node_is_at i below = found nodes i (g.below i below)
 
@@ -59,7 +58,7 @@ module _ (triples : List (List ℤ)) (t : TriangleLaws triples) (nodes : List No
 
   pub node_component : (x : ℤ) → IsLabel triples x → (node_at nodes (triangle_of triples (inverse x))).root ≡ (node_at nodes (triangle_of triples x)).root
   node_component x label =
-      let n : IsNodeAt nodes (triangle_of triples x) (node_at nodes (triangle_of triples x)) = node_is_at (triangle_of triples x) (t.triangle x label) in
+      let n : IsNodeAt nodes (triangle_of triples x) (node_at nodes (triangle_of triples x)) = node_is_at (triangle_of triples x) (glue.triangles.triangle x label) in
       let b : IsBeyond triples nodes (node_at nodes (triangle_of triples x)) x =
       (g.closed (node_at nodes (triangle_of triples x)) n.there).beyond x label (sym n.at) in
       ap (λ (m : Node). m.root) (only_node b.node (triangle_of triples (inverse x)) b.there b.at) ∙ b.root
@@ -88,9 +87,9 @@ module _ (triples : List (List ℤ)) (t : TriangleLaws triples) (nodes : List No
           ∙ eq-eqb (edge_of b.side) (edge_of b.side) refl)))
 
   -- across the side of a node's last step
-  step_across : ReductionLaws → (n : Node) → Contains nodes n → (b : StandsBeyond triples nodes n) → (x : ℤ) → (x ≡ b.side) ⊎ (x ≡ inverse b.side)
+  step_across : (n : Node) → Contains nodes n → (b : StandsBeyond triples nodes n) → (x : ℤ) → (x ≡ b.side) ⊎ (x ≡ inverse b.side)
       → reduce ((node_at nodes (triangle_of triples x)).walk ++ (x ∷ [])) ≡ reduce (node_at nodes (triangle_of triples (inverse x))).walk
-  step_across r n there b x (inl e) =
+  step_across n there b x (inl e) =
       ap reduce
       (ap (λ (m : Node). m.walk ++ (x ∷ []))
       (only_node b.from (triangle_of triples x) b.there (sym b.at ∙ ap (triangle_of triples) (sym e)))
@@ -99,21 +98,21 @@ module _ (triples : List (List ℤ)) (t : TriangleLaws triples) (nodes : List No
       ∙ ap (λ (m : Node). m.walk)
       (sym (only_node n (triangle_of triples (inverse x)) there
       (ap (λ (m : Node). m.triangle) b.is ∙ ap (λ (z : ℤ). triangle_of triples (inverse z)) (sym e)))))
-  step_across r n there b x (inr e) =
+  step_across n there b x (inr e) =
       ap (λ (m : Node). reduce (m.walk ++ (x ∷ [])))
       (only_node n (triangle_of triples x) there (ap (λ (m : Node). m.triangle) b.is ∙ ap (triangle_of triples) (sym e)))
       ∙ ap (λ (m : Node). reduce (m.walk ++ (x ∷ []))) b.is
       ∙ ap reduce (append_assoc b.from.walk (b.side ∷ []) (x ∷ []))
       ∙ ap (λ (z : ℤ). reduce (b.from.walk ++ (b.side ∷ (z ∷ [])))) e
-      ∙ r.cancel b.from.walk (b.side ∷ []) []
+      ∙ glue.known.words.reduction.cancel b.from.walk (b.side ∷ []) []
       ∙ ap reduce (append-nil b.from.walk)
       ∙ ap (λ (m : Node). reduce m.walk)
       (sym (only_node b.from (triangle_of triples (inverse x)) b.there
-      (sym b.at ∙ ap (triangle_of triples) (sym (ap inverse e ∙ inverse-inverse b.side)))))
+      (sym b.at ∙ ap (triangle_of triples) (sym (ap inverse e ∙ glue.known.labels.twice b.side)))))
 
-  pub node_across : ReductionLaws → (x : ℤ) → is_crossed nodes (edge_of x) ≡ true
+  pub node_across : (x : ℤ) → is_crossed nodes (edge_of x) ≡ true
       → reduce ((node_at nodes (triangle_of triples x)).walk ++ (x ∷ [])) ≡ reduce (node_at nodes (triangle_of triples (inverse x))).walk
-  node_across r x h =
+  node_across x h =
       let (n, there, ends) = crossing_node nodes (edge_of x) h in
       go n there ends (g.forest.comes n there)
     where
@@ -125,4 +124,4 @@ module _ (triples : List (List ℤ)) (t : TriangleLaws triples) (nodes : List No
           sym
           (eqb-true (edge_of b.side) (edge_of x)
           (sym (ends_across-push (edge_of x) b.from.walk b.side) ∙ ap (λ (m : Node). ends_across (edge_of x) m.walk) (sym b.is) ∙ ends)) in
-          step_across r n there b x (two_labels x b.side same_edge)
+          step_across n there b x (glue.known.labels.of_edge x b.side same_edge)

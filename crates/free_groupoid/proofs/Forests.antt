@@ -10,7 +10,7 @@ use Rattle.std.proofs.lemmas.Bool.{eqb-true, false_from_ne_true, false≢true, b
 use Rattle.ideal_tri.specs.Labels.{edge_of}
 use Rattle.ideal_tri.specs.Triangulations.{IsLabel, IsWalk, triangle_of}
 use Rattle.free_groupoid.specs.TestWalks.{Node, root_node, node_beyond, is_reached, ends_across}
-use Rattle.free_groupoid.proofs.Letters.{two_labels}
+use Rattle.free_groupoid.proofs.Known.{Glued}
 use Rattle.free_groupoid.proofs.Nodes.{node_reaches, not_reached, is_crossed, crossing_node, ends_across-push}
 
 -- ---- what holds of the nodes
@@ -56,11 +56,11 @@ pub record IsForest (triples : List (List ℤ)) (nodes : List Node) : Type 0 whe
 -- ---- crossed edges
 
 -- the last step of a node starts and ends at reached triangles
-last_step : (triples : List (List ℤ)) (nodes : List Node) (n : Node) (x : ℤ) → Contains nodes n → ends_across (edge_of x) n.walk ≡ true
+last_step : (triples : List (List ℤ)) (glue : Glued triples) (nodes : List Node) (n : Node) (x : ℤ) → Contains nodes n → ends_across (edge_of x) n.walk ≡ true
     → (n ≡ root_node n.triangle) ⊎ StandsBeyond triples nodes n → is_reached nodes (triangle_of triples x) ≡ true
-last_step triples nodes n x there ends (inl root) = absurd (false≢true (ap (λ (m : Node). ends_across (edge_of x) m.walk) (sym root) ∙ ends))
-last_step triples nodes n x there ends (inr b) =
-    elim (two_labels x b.side (sym (eqb-true (edge_of b.side) (edge_of x) across))) [
+last_step triples glue nodes n x there ends (inl root) = absurd (false≢true (ap (λ (m : Node). ends_across (edge_of x) m.walk) (sym root) ∙ ends))
+last_step triples glue nodes n x there ends (inr b) =
+    elim (glue.known.labels.of_edge x b.side (sym (eqb-true (edge_of b.side) (edge_of x) across))) [
       | inl e ↦ node_reaches nodes b.from (triangle_of triples x) b.there (sym (ap (triangle_of triples) e ∙ b.at))
       | inr e ↦
           node_reaches nodes n (triangle_of triples x) there (ap (λ (m : Node). m.triangle) b.is ∙ ap (triangle_of triples) (sym e))
@@ -73,12 +73,12 @@ last_step triples nodes n x there ends (inr b) =
         ∙ ends
 
 -- no edge of a new triangle is crossed
-pub uncrossed : (triples : List (List ℤ)) (nodes : List Node) (x : ℤ) → IsForest triples nodes → is_reached nodes (triangle_of triples x) ≡ false
+pub uncrossed : (triples : List (List ℤ)) (glue : Glued triples) (nodes : List Node) (x : ℤ) → IsForest triples nodes → is_reached nodes (triangle_of triples x) ≡ false
     → is_crossed nodes (edge_of x) ≡ false
-uncrossed triples nodes x f new =
+uncrossed triples glue nodes x f new =
     false_from_ne_true (is_crossed nodes (edge_of x))
     (λ h. let (n, there, ends) = crossing_node nodes (edge_of x) h in
-    both_ways (is_reached nodes (triangle_of triples x)) new (last_step triples nodes n x there ends (f.comes n there)))
+    both_ways (is_reached nodes (triangle_of triples x)) new (last_step triples glue nodes n x there ends (f.comes n there)))
 
 -- the triangle of a free label is reached
 pub free_reached : (triples : List (List ℤ)) (nodes : List Node) (r : ℕ) (x y : ℤ) → IsFree triples nodes r x

@@ -8,9 +8,8 @@ use Rattle.std.proofs.lemmas.Bool.{cases_Bool, cond-true, cond-false, cases_lt, 
 use Rattle.std.proofs.lemmas.List.Elements.{Contains-append_left, Contains-push, Contains-push_cases}
 use Rattle.ideal_tri.specs.Labels.{inverse}
 use Rattle.ideal_tri.specs.Triangulations.{IsLabel, triangle_of}
-use Rattle.ideal_tri.specs.SurfaceLaws.{TriangleLaws, WalkLaws}
 use Rattle.free_groupoid.specs.TestWalks.{Node, node_beyond, is_reached, sprout}
-use Rattle.free_groupoid.proofs.Sides.{inverse_label}
+use Rattle.free_groupoid.proofs.Known.{Glued}
 use Rattle.free_groupoid.proofs.Members.{member_here, member_later, member_cases, no_member}
 use Rattle.free_groupoid.proofs.Nodes.{still_reached, missing, missing-new}
 use Rattle.free_groupoid.proofs.Forests.{IsForest}
@@ -18,14 +17,14 @@ use Rattle.free_groupoid.proofs.Sprouts.{IsOpen}
 use Rattle.free_groupoid.proofs.Additions.{sprouted_forest}
 use Rattle.free_groupoid.proofs.Turns.{IsBeyond, IsClosed, IsGrowing, IsTurning, closed_more, beyond_more, turn_past}
 
-module _ (triples : List (List ℤ)) (t : TriangleLaws triples) (w : WalkLaws triples) (r bound : ℕ) (n : Node) (done : List Node) where
+module _ (triples : List (List ℤ)) (glue : Glued triples) (r bound : ℕ) (n : Node) (done : List Node) where
   -- ---- a side whose other triangle is new
 
   turn_new : (todo : List Node) (x : ℤ) (sides : List ℤ) → IsTurning triples r bound n done todo (x ∷ sides)
       → is_reached (done ++ todo) (triangle_of triples (inverse x)) ≡ false
       → IsTurning triples r bound n done (todo ++ (node_beyond triples n x ∷ [])) sides
   turn_new todo x sides g h = record {
-    forest = subst (IsForest triples) regroup (sprouted_forest triples t w (done ++ todo) g.forest n x is_open least);
+    forest = subst (IsForest triples) regroup (sprouted_forest triples glue (done ++ todo) g.forest n x is_open least);
     here = g.here;
     mine = g.mine;
     closed = λ m k. still_closed m (g.closed m k);
@@ -40,7 +39,7 @@ module _ (triples : List (List ℤ)) (t : TriangleLaws triples) (w : WalkLaws tr
           g.few,
           ap (missing (length triples)) regroup,
           length-append todo (new ∷ []),
-          missing-new (length triples) (done ++ todo) new (t.triangle (inverse x) (inverse_label triples x side.0)) h,
+          missing-new (length triples) (done ++ todo) new (glue.triangles.triangle (inverse x) (glue.known.labels.label triples x side.0)) h,
         );
   }
     where
@@ -124,7 +123,7 @@ module _ (triples : List (List ℤ)) (t : TriangleLaws triples) (w : WalkLaws tr
         | inl h ↦
             subst (IsGrowing triples r bound done)
             (sym (cond-true (is_reached (done ++ todo) (triangle_of triples (inverse x))) past new h))
-            (turn sides todo (turn_past triples t w r bound n done todo x sides g h))
+            (turn sides todo (turn_past triples glue r bound n done todo x sides g h))
         | inr h ↦
             subst (IsGrowing triples r bound done)
             (sym (cond-false (is_reached (done ++ todo) (triangle_of triples (inverse x))) past new h))

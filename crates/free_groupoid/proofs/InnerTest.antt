@@ -8,12 +8,12 @@ use Rattle.free_groupoid.specs.TestWalks.{root_of, tree_walk, loop, outer_edges,
 use Rattle.free_groupoid.specs.Inner.{IsInner, IsKept}
 use Rattle.free_groupoid.specs.InnerLaws.{InnerLaws}
 use Rattle.free_groupoid.specs.inside.InnerPaths.{collapse}
-use Rattle.free_groupoid.proofs.Letters.{reduce-inside}
-use Rattle.free_groupoid.proofs.Names.{+0, -0, +1, -1, +2, +3, by_fact}
+use Rattle.free_groupoid.proofs.Names.{reduce-inside, +0, -0, +1, -1, +2, +3, by_fact}
 use Rattle.free_groupoid.proofs.Carrying.{Carries, carries_image, carries-kept}
 use Rattle.free_groupoid.proofs.Centraliser.{centraliser}
 use Rattle.free_groupoid.proofs.Collapse.{IsOuter, collapse-odd}
-use Rattle.free_groupoid.proofs.Loops.{Laws, loop_closed}
+use Rattle.free_groupoid.proofs.Known.{Laws}
+use Rattle.free_groupoid.proofs.Loops.{loop_closed}
 use Rattle.free_groupoid.proofs.Telescope.{collapse_injective}
 use Rattle.free_groupoid.proofs.InnerMaps.{inner_along, inner_carries}
 use Rattle.free_groupoid.proofs.OuterEdges.{edge_outer, edge_at_outer}
@@ -26,7 +26,7 @@ use Rattle.free_groupoid.proofs.ComputedPaths.{own_root, root_below, kept_inner}
 module _ (triples : List (List ℤ)) (l : Laws triples) (f : ℤ → List ℤ) (f0 : ℕ → ℕ) (m : IsMap triples triples f f0) where
   closed_kept : (p : ℕ → List ℤ) → IsInner triples f f0 p → (t : ℕ) (w : List ℤ) → IsWalk triples t w t → IsKept f (cyclic_reduce w)
   closed_kept p h t w walk =
-      carries-kept l.reduction l.substitution l.cyclic f (p t) w m.odd (inner_carries l.reduction l.substitution triples f f0 p t w h walk)
+      carries-kept l.known f (p t) w m.odd (inner_carries l.known triples f f0 p t w h walk)
 
   pub inner_kept : (p : ℕ → List ℤ) → IsInner triples f f0 p → All (IsKept f) (test_walks triples)
   inner_kept p h =
@@ -53,10 +53,10 @@ module _ (triples : List (List ℤ)) (l : Laws triples) (f : ℤ → List ℤ) (
   -- it commutes with each closed walk
   around_commutes : (r : ℕ) (w : List ℤ) → IsWalk triples r w r → Carries (around r) w w
   around_commutes r w walk =
-      by_fact l.reduction l.substitution names (+2 ∷ +0 ∷ -1 ∷ []) (+0 ∷ +3 ∷ -1 ∷ []) [] (+2 ∷ +0 ∷ []) (+0 ∷ +3 ∷ []) (-1 ∷ []) refl
-      (sym (inner_along l.reduction l.substitution triples f f0 p r r w h walk)) refl
-      ∙ by_fact l.reduction l.substitution names (+0 ∷ +3 ∷ -1 ∷ []) (+0 ∷ -1 ∷ +2 ∷ []) (+0 ∷ -1 ∷ []) (+1 ∷ +3 ∷ []) (+2 ∷ +1 ∷ []) (-1 ∷ []) refl
-      (inner_along l.reduction l.substitution triples f f0 q r r w k walk) refl
+      by_fact l.known names (+2 ∷ +0 ∷ -1 ∷ []) (+0 ∷ +3 ∷ -1 ∷ []) [] (+2 ∷ +0 ∷ []) (+0 ∷ +3 ∷ []) (-1 ∷ []) refl
+      (sym (inner_along l.known triples f f0 p r r w h walk)) refl
+      ∙ by_fact l.known names (+0 ∷ +3 ∷ -1 ∷ []) (+0 ∷ -1 ∷ +2 ∷ []) (+0 ∷ -1 ∷ []) (+1 ∷ +3 ∷ []) (+2 ∷ +1 ∷ []) (-1 ∷ []) refl
+      (inner_along l.known triples f f0 q r r w k walk) refl
       ∙ ap reduce (sym (append_assoc (p r) (inverse_word (q r)) w))
     where
       names : List (List ℤ)
@@ -66,7 +66,7 @@ module _ (triples : List (List ℤ)) (l : Laws triples) (f : ℤ → List ℤ) (
   around_letter : (r e : ℕ) → IsOuter triples r (pos e) → Carries (flat_map (collapse triples r) (around r)) (pos e ∷ []) (pos e ∷ [])
   around_letter r e out =
       subst (λ (z : List ℤ). Carries (flat_map (collapse triples r) (around r)) z z) (loop_collapsed triples l r e out)
-      (carries_image l.reduction l.substitution (collapse triples r) (around r) (loop triples (pos e)) (loop triples (pos e)) (collapse-odd triples r)
+      (carries_image l.known (collapse triples r) (around r) (loop triples (pos e)) (loop triples (pos e)) (collapse-odd l.known triples r)
       (around_commutes r (loop triples (pos e)) (loop_closed triples l (pos e) r out.label out.root)))
 
   same_at_root : (t : ℕ) → t < length triples → reduce (p (root_of triples t)) ≡ reduce (q (root_of triples t))
@@ -74,25 +74,25 @@ module _ (triples : List (List ℤ)) (l : Laws triples) (f : ℤ → List ℤ) (
       let r : ℕ = root_of triples t in
       let (i, j, ne, a, b) = l.forest.outside t below in
       let nothing : reduce (flat_map (collapse triples r) (around r)) ≡ [] =
-      centraliser l.reduction l.substitution l.cyclic (pos i) (pos j) (flat_map (collapse triples r) (around r)) ne
+      centraliser l.known (pos i) (pos j) (flat_map (collapse triples r) (around r)) ne
       (around_letter r i (edge_at_outer triples r i a)) (around_letter r j (edge_at_outer triples r j b)) in
       let closed : reduce (around r) ≡ reduce [] =
       collapse_injective triples l r r r (around r) [] (own_root triples l t below) (around_closed r (root_below triples l t below)) refl nothing in
-      by_fact l.reduction l.substitution (p r ∷ q r ∷ []) (+0 ∷ []) (+1 ∷ []) [] (+0 ∷ -1 ∷ []) [] (+1 ∷ []) refl closed refl
+      by_fact l.known (p r ∷ q r ∷ []) (+0 ∷ []) (+1 ∷ []) [] (+0 ∷ -1 ∷ []) [] (+1 ∷ []) refl closed refl
 
   -- a walk of an inner map is that of the root between the tree and its image
   from_root : (o : ℕ → List ℤ) → IsInner triples f f0 o → (t : ℕ) → t < length triples
       → reduce (o t) ≡ reduce (inverse_word (tree_walk triples t) ++ (o (root_of triples t) ++ flat_map f (tree_walk triples t)))
   from_root o n t below =
-      by_fact l.reduction l.substitution
+      by_fact l.known
       (tree_walk triples t ∷ o (root_of triples t) ∷ flat_map f (tree_walk triples t) ∷ o t ∷ []) (+3 ∷ []) (-0 ∷ +1 ∷ +2 ∷ [])
       (-0 ∷ []) (+0 ∷ +3 ∷ []) (+1 ∷ +2 ∷ []) [] refl
-      (sym (inner_along l.reduction l.substitution triples f f0 o (root_of triples t) t (tree_walk triples t) n (l.forest.walk t below))) refl
+      (sym (inner_along l.known triples f f0 o (root_of triples t) t (tree_walk triples t) n (l.forest.walk t below))) refl
 
   pub same_walks : (t : ℕ) → t < length triples → reduce (p t) ≡ reduce (q t)
   same_walks t below =
       from_root p h t below
-      ∙ reduce-inside l.reduction (inverse_word (tree_walk triples t)) (p (root_of triples t)) (q (root_of triples t)) (flat_map f (tree_walk triples t))
+      ∙ reduce-inside l.known (inverse_word (tree_walk triples t)) (p (root_of triples t)) (q (root_of triples t)) (flat_map f (tree_walk triples t))
       (same_at_root t below)
       ∙ sym (from_root q k t below)
 

@@ -1,5 +1,5 @@
+pub mod Known
 pub mod Examples
-pub mod Letters
 pub mod Names
 pub mod Carrying
 pub mod Reduced

@@ -10,34 +10,20 @@ use Rattle.std.proofs.lemmas.List.Concat.{flat_map-append}
 use Rattle.std.proofs.lemmas.List.Elements.{All-head, All-tail}
 use Rattle.ideal_tri.specs.Labels.{inverse, edge_of}
 use Rattle.ideal_tri.specs.Words.{inverse_word, reduce}
-use Rattle.ideal_tri.specs.WordLaws.{ReductionLaws, CyclicLaws}
 use Rattle.ideal_tri.specs.Triangulations.{IsLabel, IsWalk, triangle_of}
-use Rattle.ideal_tri.specs.SurfaceLaws.{TriangleLaws, WalkLaws}
 use Rattle.tri_atlas.specs.Maps.{IsOdd}
-use Rattle.tri_atlas.specs.MapLaws.{SubstitutionLaws}
 use Rattle.free_groupoid.specs.TestWalks.{root_of, tree_walk, is_tree_edge, loop}
-use Rattle.free_groupoid.specs.ForestLaws.{ForestLaws}
 use Rattle.free_groupoid.specs.inside.InnerPaths.{collapse}
-use Rattle.free_groupoid.proofs.Letters.{inverse-inverse, inverse_word-append, inverse_word-inverse_word}
+use Rattle.free_groupoid.proofs.Known.{Known, Laws}
 use Rattle.free_groupoid.proofs.Names.{+0, -0, +1, +2, -2, by_name, by_fact}
-use Rattle.free_groupoid.proofs.Sides.{inverse_label}
 use Rattle.free_groupoid.proofs.Collapse.{IsOuter, collapse-odd, collapse-outer, collapse-tree, collapse-trees}
 
--- what is known of words, substitutions and the triangulation
-pub record Laws (triples : List (List ℤ)) : Type 0 where
-  pub reduction : ReductionLaws
-  pub cyclic : CyclicLaws
-  pub substitution : SubstitutionLaws
-  pub triangles : TriangleLaws triples
-  pub walks : WalkLaws triples
-  pub forest : ForestLaws triples
-
-pub loop-odd : (triples : List (List ℤ)) → IsOdd (loop triples)
-loop-odd triples x =
-    ap (λ (z : ℤ). there ++ (inverse x ∷ inverse_word (tree_walk triples (triangle_of triples z)))) (inverse-inverse x)
+pub loop-odd : Known → (triples : List (List ℤ)) → IsOdd (loop triples)
+loop-odd known triples x =
+    ap (λ (z : ℤ). there ++ (inverse x ∷ inverse_word (tree_walk triples (triangle_of triples z)))) (known.labels.twice x)
     ∙ sym (append_assoc there (inverse x ∷ []) (inverse_word here))
-    ∙ ap (λ (w : List ℤ). (w ++ (inverse x ∷ [])) ++ inverse_word here) (sym (inverse_word-inverse_word there))
-    ∙ sym (inverse_word-append here (x ∷ inverse_word there))
+    ∙ ap (λ (w : List ℤ). (w ++ (inverse x ∷ [])) ++ inverse_word here) (sym (known.words.inverses.twice there))
+    ∙ sym (known.words.inverses.append here (x ∷ inverse_word there))
   where
     here : List ℤ
     here = tree_walk triples (triangle_of triples x)
@@ -50,7 +36,7 @@ module _ (triples : List (List ℤ)) (l : Laws triples) where
   source_in x label = l.triangles.triangle x label
 
   target_in : (x : ℤ) → IsLabel triples x → triangle_of triples (inverse x) < length triples
-  target_in x label = l.triangles.triangle (inverse x) (inverse_label triples x label)
+  target_in x label = l.triangles.triangle (inverse x) (l.known.labels.label triples x label)
 
   -- ---- loops
 
@@ -83,7 +69,7 @@ module _ (triples : List (List ℤ)) (l : Laws triples) where
       ∙ ap (λ (w : List ℤ). w ++ (collapse triples r x ++ flat_map (collapse triples r) (inverse_word there)))
       (collapse-trees triples l.forest r here (l.forest.letters (triangle_of triples x) (source_in x label)))
       ∙ ap (λ (w : List ℤ). collapse triples r x ++ w)
-      (l.substitution.back (collapse triples r) there (collapse-odd triples r)
+      (l.known.maps.substitutions.back (collapse triples r) there (collapse-odd l.known triples r)
       ∙ ap inverse_word (collapse-trees triples l.forest r there (l.forest.letters (triangle_of triples (inverse x)) (target_in x label))))
       ∙ append-nil (collapse triples r x)
     where
@@ -126,10 +112,10 @@ module _ (triples : List (List ℤ)) (l : Laws triples) where
 
       go : (b : Bool) → is_tree_edge triples (edge_of x) ≡ b → reduce (x ∷ []) ≡ reduce (whole (collapse triples r x))
       go true h =
-          by_fact l.reduction l.substitution names (+1 ∷ []) (-0 ∷ +2 ∷ []) (-0 ∷ []) (+0 ∷ +1 ∷ []) (+2 ∷ []) [] refl (l.forest.across x label h) refl
+          by_fact l.known names (+1 ∷ []) (-0 ∷ +2 ∷ []) (-0 ∷ []) (+0 ∷ +1 ∷ []) (+2 ∷ []) [] refl (l.forest.across x label h) refl
           ∙ ap (λ (w : List ℤ). reduce (whole w)) (sym (collapse-tree triples l.forest r x h))
       go false h =
-          by_name l.reduction l.substitution names (+1 ∷ []) (-0 ∷ +0 ∷ +1 ∷ -2 ∷ +2 ∷ []) refl
+          by_name l.known names (+1 ∷ []) (-0 ∷ +0 ∷ +1 ∷ -2 ∷ +2 ∷ []) refl
           ∙ ap (λ (w : List ℤ). reduce (inverse_word here ++ w))
           (sym (append_assoc here (x ∷ inverse_word there) there) ∙ ap (λ (w : List ℤ). w ++ there) (sym (append-nil (loop triples x))))
           ∙ ap (λ (w : List ℤ). reduce (whole w))

@@ -10,10 +10,8 @@ use Rattle.std.specs.List.{flat_map}
 use Rattle.std.proofs.lemmas.List.{append-nil}
 use Rattle.std.proofs.lemmas.List.Concat.{flat_map-append}
 use Rattle.ideal_tri.specs.Words.{inverse_word, reduce}
-use Rattle.ideal_tri.specs.WordLaws.{ReductionLaws}
 use Rattle.tri_atlas.specs.Maps.{IsOdd}
-use Rattle.tri_atlas.specs.MapLaws.{SubstitutionLaws}
-use Rattle.free_groupoid.proofs.Letters.{inverse_word-inverse_word, reduce-inside}
+use Rattle.free_groupoid.proofs.Known.{Known}
 
 -- ---- names
 
@@ -82,9 +80,9 @@ abbrev pub named : List (List ℤ) → ℤ → List ℤ
 named words (pos n) = get_or words n []
 named words (negsuc n) = inverse_word (get_or words n [])
 
-named-odd : (words : List (List ℤ)) → IsOdd (named words)
-named-odd words (pos n) = refl
-named-odd words (negsuc n) = sym (inverse_word-inverse_word (get_or words n []))
+named-odd : Known → (words : List (List ℤ)) → IsOdd (named words)
+named-odd known words (pos n) = refl
+named-odd known words (negsuc n) = sym (known.words.inverses.twice (get_or words n []))
 
 -- ---- spelled words
 
@@ -99,18 +97,22 @@ spell-flat_map f [] = refl
 spell-flat_map f (x ∷ []) = sym (append-nil (f x))
 spell-flat_map f (x ∷ (y ∷ w)) = ap (λ (z : List ℤ). f x ++ z) (spell-flat_map f (y ∷ w))
 
-module _ (r : ReductionLaws) (s : SubstitutionLaws) where
+module _ (known : Known) where
+  -- what stands inside a word may be replaced by any word with the same reduction
+  pub reduce-inside : (a u v b : List ℤ) → reduce u ≡ reduce v → reduce (a ++ (u ++ b)) ≡ reduce (a ++ (v ++ b))
+  reduce-inside a u v b e = known.words.reduction.right a (u ++ b) (v ++ b) (known.words.reduction.left u v b e)
+
   -- an odd substitution goes with reductions
   pub flat_map-respects : (f : ℤ → List ℤ) (u v : List ℤ) → IsOdd f → reduce u ≡ reduce v → reduce (flat_map f u) ≡ reduce (flat_map f v)
   flat_map-respects f u v odd e =
-      sym (s.reduced_before f u odd) ∙ ap (λ (z : List ℤ). reduce (flat_map f z)) e ∙ s.reduced_before f v odd
+      sym (known.maps.substitutions.reduced_before f u odd) ∙ ap (λ (z : List ℤ). reduce (flat_map f z)) e ∙ known.maps.substitutions.reduced_before f v odd
 
   -- words of names with the same reduction
   pub by_name : (words : List (List ℤ)) (u v : List ℤ) → reduce u ≡ reduce v
       → reduce (spell (named words) u) ≡ reduce (spell (named words) v)
   by_name words u v e =
       ap reduce (spell-flat_map (named words) u)
-      ∙ flat_map-respects (named words) u v (named-odd words) e
+      ∙ flat_map-respects (named words) u v (named-odd known words) e
       ∙ ap reduce (sym (spell-flat_map (named words) v))
 
   -- u is a p b, p and q spell words with the same reduction, and v is a q b
@@ -130,5 +132,5 @@ module _ (r : ReductionLaws) (s : SubstitutionLaws) where
       inside : reduce (spell (named words) (a ++ (p ++ b))) ≡ reduce (spell (named words) (a ++ (q ++ b)))
       inside =
           ap reduce (parts p)
-          ∙ reduce-inside r (flat_map (named words) a) (spell (named words) p) (spell (named words) q) (flat_map (named words) b) fact
+          ∙ reduce-inside (flat_map (named words) a) (spell (named words) p) (spell (named words) q) (flat_map (named words) b) fact
           ∙ ap reduce (sym (parts q))

@@ -70,8 +70,6 @@ module _ (laws : MapLaws) where
       let (back_triangles, back_map) = path_is_map target source (back_along moves) h.end h.start backwards in (
         back_triangles,
         record {
-          source_is = h.start;
-          target_is = h.end;
           there = h.map;
           back = back_map;
           there_back = λ x label.

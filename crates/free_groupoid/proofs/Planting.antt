@@ -6,8 +6,8 @@ use Rattle.std.proofs.lemmas.Bool.{cases_Bool, cond-true, cond-false, cases_eq}
 use Rattle.std.proofs.lemmas.List.{append-nil}
 use Rattle.std.proofs.lemmas.List.Elements.{Contains-append_left, Contains-push, Contains-push_cases}
 use Rattle.ideal_tri.specs.Triangulations.{IsTriangulation}
-use Rattle.ideal_tri.specs.SurfaceLaws.{TriangleLaws, WalkLaws}
 use Rattle.free_groupoid.specs.TestWalks.{Node, root_node, is_reached, sides_in_order, sprout, grow, plant, forest}
+use Rattle.free_groupoid.proofs.Known.{Glued}
 use Rattle.free_groupoid.proofs.Sides.{side_of_triangle}
 use Rattle.free_groupoid.proofs.SidesInOrder.{side_in_order, in_order_side}
 use Rattle.free_groupoid.proofs.Members.{member_here, member_later, member_cases, no_member}
@@ -25,7 +25,7 @@ pub record IsGrown (triples : List (List ℤ)) (k : ℕ) (nodes : List Node) : T
   pub closed : (n : Node) → Contains nodes n → IsClosed triples nodes n
   pub below : (t : ℕ) → t < k → is_reached nodes t ≡ true
 
-module _ (triples : List (List ℤ)) (t : TriangleLaws triples) (w : WalkLaws triples) where
+module _ (triples : List (List ℤ)) (glue : Glued triples) where
   -- no node waits any more
   all_done : (r bound : ℕ) (done : List Node) → IsGrowing triples r bound done [] → IsGrown triples (suc r) done
   all_done r bound done g = record {
@@ -71,15 +71,15 @@ module _ (triples : List (List ℤ)) (t : TriangleLaws triples) (w : WalkLaws tr
   grown r (suc bound) done [] g = all_done r (suc bound) done g
   grown r (suc bound) done (n ∷ todo) g =
       grown r bound (done ++ (n ∷ [])) (sprout triples n (sides_in_order triples n.triangle) (done ++ (n ∷ [])) todo)
-      (turn triples t w r bound n (done ++ (n ∷ [])) (sides_in_order triples n.triangle) todo (begin_turn r bound done n todo g))
+      (turn triples glue r bound n (done ++ (n ∷ [])) (sides_in_order triples n.triangle) todo (begin_turn r bound done n todo g))
 
   -- ---- all trees
 
   -- a root that has to wait
-  rooted : (r : ℕ) (nodes : List Node) → IsTriangulation triples → r < length triples → is_reached nodes r ≡ false → IsGrown triples r nodes
+  rooted : (r : ℕ) (nodes : List Node) → r < length triples → is_reached nodes r ≡ false → IsGrown triples r nodes
       → IsGrowing triples r (length triples) nodes (root_node r ∷ [])
-  rooted r nodes tri below new g = record {
-    forest = planted_forest triples t w nodes g.forest r below new (side_of_triangle triples tri r below);
+  rooted r nodes below new g = record {
+    forest = planted_forest triples glue nodes g.forest r below new (side_of_triangle triples glue r below);
     closed = λ n k. closed_more triples nodes (nodes ++ (root_node r ∷ [])) n (λ m h. Contains-append_left nodes (root_node r ∷ []) m h) (g.closed n k);
     waiting = λ n k. go n (member_cases (root_node r) [] n k);
     below = λ i k. still_reached nodes (root_node r) i (g.below i k);
@@ -91,19 +91,19 @@ module _ (triples : List (List ℤ)) (t : TriangleLaws triples) (w : WalkLaws tr
       go n (inl e) = ap (λ (m : Node). m.root) (sym e)
       go n (inr k) = absurd (no_member n k)
 
-  planted : IsTriangulation triples → (m k : ℕ) (nodes : List Node) → k + m ≡ length triples → IsGrown triples k nodes
+  planted : (m k : ℕ) (nodes : List Node) → k + m ≡ length triples → IsGrown triples k nodes
       → IsGrown triples (length triples) (plant triples (range_with_len k m) nodes)
-  planted tri zero k nodes e g = subst (λ (i : ℕ). IsGrown triples i nodes) (omega arith) g
-  planted tri (suc m) k nodes e g =
+  planted zero k nodes e g = subst (λ (i : ℕ). IsGrown triples i nodes) (omega arith) g
+  planted (suc m) k nodes e g =
       elim (cases_Bool (is_reached nodes k)) [
         | inl h ↦
             subst (IsGrown triples (length triples)) (sym (cond-true (is_reached nodes k) (rest nodes) (rest tree) h))
-            (planted tri m (k + 1) nodes (omega arith) (record { forest = g.forest; closed = g.closed; below = λ i b. up_to h i b }))
+            (planted m (k + 1) nodes (omega arith) (record { forest = g.forest; closed = g.closed; below = λ i b. up_to h i b }))
         | inr h ↦
             subst (IsGrown triples (length triples)) (sym (cond-false (is_reached nodes k) (rest nodes) (rest tree) h))
-            (planted tri m (k + 1) tree (omega arith)
+            (planted m (k + 1) tree (omega arith)
             (subst (λ (i : ℕ). IsGrown triples i tree) (sym (add-one k))
-            (grown k (length triples) nodes (root_node k ∷ []) (rooted k nodes tri (omega arith) h g))))
+            (grown k (length triples) nodes (root_node k ∷ []) (rooted k nodes (omega arith) h g))))
       ]
     where
       tree : List Node
@@ -119,8 +119,8 @@ module _ (triples : List (List ℤ)) (t : TriangleLaws triples) (w : WalkLaws tr
             | inr ne ↦ g.below i (omega arith)
           ]
 
-pub forest_grown : (triples : List (List ℤ)) → IsTriangulation triples → TriangleLaws triples → WalkLaws triples → IsGrown triples (length triples) (forest triples)
+pub forest_grown : (triples : List (List ℤ)) → Glued triples → IsGrown triples (length triples) (forest triples)
 unfolding forest
-forest_grown triples tri t w =
-    planted triples t w tri (length triples) 0 [] (omega arith)
+forest_grown triples glue =
+    planted triples glue (length triples) 0 [] (omega arith)
     (record { forest = no_nodes triples; closed = λ n k. absurd (no_member n k); below = λ i k. absurd (omega arith) })

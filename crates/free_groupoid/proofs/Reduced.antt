@@ -4,8 +4,7 @@ use Rattle.std.specs.List.{All}
 use Rattle.std.proofs.lemmas.List.Elements.{All-nil, All-cons, All-head, All-tail, All-append}
 use Rattle.ideal_tri.specs.Labels.{inverse, edge_of}
 use Rattle.ideal_tri.specs.Words.{inverse_word, IsReduced, reduce, Deletes, DeletesAll, pair, done, more}
-use Rattle.ideal_tri.specs.WordLaws.{ReductionLaws}
-use Rattle.free_groupoid.proofs.Letters.{edge_of-inverse}
+use Rattle.free_groupoid.proofs.Known.{Known}
 
 -- ---- parts
 
@@ -30,18 +29,18 @@ IsReduced-glue (y ∷ (z ∷ u)) x v h k = (h.0, IsReduced-glue (z ∷ u) x v h.
 
 -- ---- neighbours of different edges
 
-pub apart : (x y : ℤ) → edge_of x ≢ edge_of y → x ≢ inverse y
-apart x y n e = n (ap edge_of e ∙ edge_of-inverse y)
+pub apart : Known → (x y : ℤ) → edge_of x ≢ edge_of y → x ≢ inverse y
+apart known x y n e = n (ap edge_of e ∙ known.labels.edge y)
 
 -- letters of different edges may stand side by side
-pub IsReduced-join : (u : List ℤ) (x y : ℤ) (v : List ℤ) → edge_of y ≢ edge_of x → IsReduced (u ++ (x ∷ [])) → IsReduced (y ∷ v)
+pub IsReduced-join : Known → (u : List ℤ) (x y : ℤ) (v : List ℤ) → edge_of y ≢ edge_of x → IsReduced (u ++ (x ∷ [])) → IsReduced (y ∷ v)
     → IsReduced (u ++ (x ∷ (y ∷ v)))
-IsReduced-join u x y v n h k = IsReduced-glue u x (y ∷ v) h (apart y x n, k)
+IsReduced-join known u x y v n h k = IsReduced-glue u x (y ∷ v) h (apart known y x n, k)
 
 -- ---- the way back
 
-pub IsReduced-inverse_word : ReductionLaws → (w : List ℤ) → IsReduced w → IsReduced (inverse_word w)
-IsReduced-inverse_word r w h = subst IsReduced (r.inverse w ∙ ap inverse_word (r.fixed w h)) (r.is_reduced (inverse_word w))
+pub IsReduced-inverse_word : Known → (w : List ℤ) → IsReduced w → IsReduced (inverse_word w)
+IsReduced-inverse_word known w h = subst IsReduced (known.words.reduction.inverse w ∙ ap inverse_word (known.words.reduction.fixed w h)) (known.words.reduction.is_reduced (inverse_word w))
 
 -- ---- letters
 
@@ -62,8 +61,8 @@ module _ (P : ℤ → Type 0) where
   deletions-keep v w (more {u = a} {v = b} {w = c} d rest) h = deletions-keep b c rest (deletion-keeps a b d h)
 
   -- what holds of each letter of a word holds of each letter of its reduction
-  pub reduce-keeps : ReductionLaws → (w : List ℤ) → All P w → All P (reduce w)
-  reduce-keeps r w h = deletions-keep w (reduce w) (r.reached w) h
+  pub reduce-keeps : Known → (w : List ℤ) → All P w → All P (reduce w)
+  reduce-keeps known w h = deletions-keep w (reduce w) (known.words.reduction.reached w) h
 
   pub inverse_word-keeps : ((x : ℤ) → P x → P (inverse x)) → (w : List ℤ) → All P w → All P (inverse_word w)
   inverse_word-keeps both [] h = h

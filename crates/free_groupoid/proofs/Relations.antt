@@ -5,35 +5,24 @@ use Rattle.std.proofs.lemmas.List.{append-nil}
 use Rattle.std.proofs.lemmas.List.Concat.{flat_map-append}
 use Rattle.ideal_tri.specs.Labels.{inverse}
 use Rattle.ideal_tri.specs.Words.{inverse_word, reduce}
-use Rattle.ideal_tri.specs.WordLaws.{ReductionLaws}
-use Rattle.ideal_tri.specs.Triangulations.{IsWalk, triangle_of}
+use Rattle.ideal_tri.specs.Triangulations.{IsTriangulation, IsWalk, triangle_of}
 use Rattle.ideal_tri.specs.SurfaceLaws.{SurfaceLaws, WalkLaws}
 use Rattle.tri_atlas.specs.Maps.{IsMap, identity, after}
-use Rattle.tri_atlas.specs.MapLaws.{SubstitutionLaws}
 use Rattle.free_groupoid.specs.Inner.{IsInner}
 use Rattle.free_groupoid.specs.Related.{IsRelated}
 use Rattle.free_groupoid.specs.RelatedLaws.{RelationLaws}
-use Rattle.free_groupoid.proofs.Letters.{reduce-reduce, reduce-left, reduce-right}
+use Rattle.free_groupoid.proofs.Known.{Known}
 use Rattle.free_groupoid.proofs.Names.{+0, -0, +1, +2, +3, -3, +4, +5, +6, by_fact, flat_map-respects}
 
--- a map carries walks to walks
-pub map_walk : (source target : List (List ℤ)) → WalkLaws target → (f : ℤ → List ℤ) (triangles : ℕ → ℕ) → IsMap source target f triangles
-    → (s t : ℕ) (w : List ℤ) → IsWalk source s w t → IsWalk target (triangles s) (flat_map f w) (triangles t)
-map_walk source target walks f triangles m s t [] h = ap triangles h
-map_walk source target walks f triangles m s t (x ∷ w) h =
-    walks.join (triangles s) (triangles (triangle_of source (inverse x))) (triangles t) (f x) (flat_map f w)
-    (subst (λ (i : ℕ). IsWalk target (triangles i) (f x) (triangles (triangle_of source (inverse x)))) h.1 (m.walks x h.0))
-    (map_walk source target walks f triangles m (triangle_of source (inverse x)) t w h.2)
-
-module _ (r : ReductionLaws) (s : SubstitutionLaws) where
+module _ (known : Known) where
   -- the equation holds for each walk
   pub related_along : (source target : List (List ℤ)) (f g : ℤ → List ℤ) (f0 g0 : ℕ → ℕ) (p : ℕ → List ℤ)
       → IsRelated source target f f0 g g0 p → (i j : ℕ) (w : List ℤ) → IsWalk source i w j → reduce (p i ++ flat_map g w) ≡ reduce (flat_map f w ++ p j)
   related_along source target f g f0 g0 p h i j [] walk = ap reduce (append-nil (p i) ∙ ap p walk)
   related_along source target f g f0 g0 p h i j (x ∷ w) walk =
-      by_fact r s names (+0 ∷ +1 ∷ +2 ∷ []) (+3 ∷ +4 ∷ +2 ∷ []) [] (+0 ∷ +1 ∷ []) (+3 ∷ +4 ∷ []) (+2 ∷ []) refl
+      by_fact known names (+0 ∷ +1 ∷ +2 ∷ []) (+3 ∷ +4 ∷ +2 ∷ []) [] (+0 ∷ +1 ∷ []) (+3 ∷ +4 ∷ []) (+2 ∷ []) refl
       (ap (λ (k : ℕ). reduce (p k ++ g x)) (sym walk.1) ∙ h.equations x walk.0) refl
-      ∙ by_fact r s names (+3 ∷ +4 ∷ +2 ∷ []) (+3 ∷ +5 ∷ +6 ∷ []) (+3 ∷ []) (+4 ∷ +2 ∷ []) (+5 ∷ +6 ∷ []) [] refl
+      ∙ by_fact known names (+3 ∷ +4 ∷ +2 ∷ []) (+3 ∷ +5 ∷ +6 ∷ []) (+3 ∷ []) (+4 ∷ +2 ∷ []) (+5 ∷ +6 ∷ []) [] refl
       (related_along source target f g f0 g0 p h between j w walk.2) refl
       ∙ ap reduce (sym (append_assoc (f x) (flat_map f w) (p j)))
     where
@@ -53,7 +42,7 @@ module _ (r : ReductionLaws) (s : SubstitutionLaws) where
   related_back source target walks f g f0 g0 p h = record {
     walks = λ t below. walks.back (f0 t) (g0 t) (p t) (h.walks t below);
     equations = λ x label.
-        by_fact r s (p (triangle_of source x) ∷ g x ∷ f x ∷ p (triangle_of source (inverse x)) ∷ []) (-0 ∷ +2 ∷ []) (+1 ∷ -3 ∷ [])
+        by_fact known (p (triangle_of source x) ∷ g x ∷ f x ∷ p (triangle_of source (inverse x)) ∷ []) (-0 ∷ +2 ∷ []) (+1 ∷ -3 ∷ [])
         (-0 ∷ []) (+2 ∷ +3 ∷ []) (+0 ∷ +1 ∷ []) (-3 ∷ []) refl (sym (h.equations x label)) refl;
   }
 
@@ -63,27 +52,27 @@ module _ (r : ReductionLaws) (s : SubstitutionLaws) where
     walks = λ t below. walks.join (f0 t) (g0 t) (k0 t) (p t) (q t) (h.walks t below) (m.walks t below);
     equations = λ x label.
         ap reduce (append_assoc (p (triangle_of source x)) (q (triangle_of source x)) (k x))
-        ∙ reduce-right r (p (triangle_of source x)) (q (triangle_of source x) ++ k x) (g x ++ q (triangle_of source (inverse x))) (m.equations x label)
+        ∙ known.words.reduction.right (p (triangle_of source x)) (q (triangle_of source x) ++ k x) (g x ++ q (triangle_of source (inverse x))) (m.equations x label)
         ∙ ap reduce (sym (append_assoc (p (triangle_of source x)) (g x) (q (triangle_of source (inverse x)))))
-        ∙ reduce-left r (p (triangle_of source x) ++ g x) (f x ++ p (triangle_of source (inverse x))) (q (triangle_of source (inverse x))) (h.equations x label)
+        ∙ known.words.reduction.left (p (triangle_of source x) ++ g x) (f x ++ p (triangle_of source (inverse x))) (q (triangle_of source (inverse x))) (h.equations x label)
         ∙ ap reduce (append_assoc (f x) (p (triangle_of source (inverse x))) (q (triangle_of source (inverse x))));
   }
 
   -- ---- a map after both, and before both
 
-  related_followed : (source target last : List (List ℤ)) → WalkLaws last → (f g k : ℤ → List ℤ) (f0 g0 k0 : ℕ → ℕ) (p : ℕ → List ℤ)
+  related_followed : (source target last : List (List ℤ)) → IsTriangulation last → (f g k : ℤ → List ℤ) (f0 g0 k0 : ℕ → ℕ) (p : ℕ → List ℤ)
       → IsMap target last k k0 → IsRelated source target f f0 g g0 p
       → IsRelated source last (after k f) (λ t. k0 (f0 t)) (after k g) (λ t. k0 (g0 t)) (λ t. flat_map k (p t))
-  related_followed source target last walks f g k f0 g0 k0 p m h = record {
-    walks = λ t below. map_walk target last walks k k0 m (f0 t) (g0 t) (p t) (h.walks t below);
+  related_followed source target last tri f g k f0 g0 k0 p m h = record {
+    walks = λ t below. known.maps.walks.walks target last k k0 (f0 t) (g0 t) (p t) tri m (h.walks t below);
     equations = λ x label.
         let before : List ℤ = p (triangle_of source x) in
         let behind : List ℤ = p (triangle_of source (inverse x)) in
-        reduce-right r (flat_map k before) (after k g x) (flat_map k (g x)) (reduce-reduce r (flat_map k (g x)))
+        known.words.reduction.right (flat_map k before) (after k g x) (flat_map k (g x)) (known.words.reduction.twice (flat_map k (g x)))
         ∙ ap reduce (sym (flat_map-append k before (g x)))
-        ∙ flat_map-respects r s k (before ++ g x) (f x ++ behind) m.odd (h.equations x label)
+        ∙ flat_map-respects known k (before ++ g x) (f x ++ behind) m.odd (h.equations x label)
         ∙ ap reduce (flat_map-append k (f x) behind)
-        ∙ reduce-left r (flat_map k (f x)) (after k f x) (flat_map k behind) (sym (reduce-reduce r (flat_map k (f x))));
+        ∙ known.words.reduction.left (flat_map k (f x)) (after k f x) (flat_map k behind) (sym (known.words.reduction.twice (flat_map k (f x))));
   }
 
   related_preceded : (first source target : List (List ℤ)) (k f g : ℤ → List ℤ) (k0 f0 g0 : ℕ → ℕ) (p : ℕ → List ℤ)
@@ -94,9 +83,9 @@ module _ (r : ReductionLaws) (s : SubstitutionLaws) where
     equations = λ x label.
         let before : List ℤ = p (k0 (triangle_of first x)) in
         let behind : List ℤ = p (k0 (triangle_of first (inverse x))) in
-        reduce-right r before (after g k x) (flat_map g (k x)) (reduce-reduce r (flat_map g (k x)))
+        known.words.reduction.right before (after g k x) (flat_map g (k x)) (known.words.reduction.twice (flat_map g (k x)))
         ∙ related_along source target f g f0 g0 p h (k0 (triangle_of first x)) (k0 (triangle_of first (inverse x))) (k x) (m.walks x label)
-        ∙ reduce-left r (flat_map f (k x)) (after f k x) behind (sym (reduce-reduce r (flat_map f (k x))));
+        ∙ known.words.reduction.left (flat_map f (k x)) (after f k x) behind (sym (known.words.reduction.twice (flat_map f (k x))));
   }
 
 -- ---- inner maps are those related to the identity
@@ -109,12 +98,12 @@ pub inner_related : (triples : List (List ℤ)) (f : ℤ → List ℤ) (f0 : ℕ
     → IsInner triples f f0 p → IsRelated triples triples identity (λ t. t) f f0 p
 inner_related triples f f0 p h = record { walks = h.walks; equations = h.equations }
 
-pub relation_laws : ReductionLaws → SubstitutionLaws → SurfaceLaws → RelationLaws
-relation_laws r s surface = record {
-  same = related_same r s;
-  back = λ source target f g f0 g0 p tri. related_back r s source target (surface.walks target tri) f g f0 g0 p;
-  join = λ source target f g k f0 g0 k0 p q tri. related_join r s source target (surface.walks target tri) f g k f0 g0 k0 p q;
-  followed = λ source target last f g k f0 g0 k0 p tri. related_followed r s source target last (surface.walks last tri) f g k f0 g0 k0 p;
-  preceded = related_preceded r s;
+pub relation_laws : Known → SurfaceLaws → RelationLaws
+relation_laws known surface = record {
+  same = related_same known;
+  back = λ source target f g f0 g0 p tri. related_back known source target (surface.walks target tri) f g f0 g0 p;
+  join = λ source target f g k f0 g0 k0 p q tri. related_join known source target (surface.walks target tri) f g k f0 g0 k0 p q;
+  followed = λ source target last f g k f0 g0 k0 p tri. related_followed known source target last tri f g k f0 g0 k0 p;
+  preceded = related_preceded known;
   inner = related_inner;
 }

@@ -9,11 +9,10 @@ use Rattle.ideal_tri.specs.Triangulations.{IsLabel, IsWalk, triangle_of}
 use Rattle.tri_atlas.specs.Maps.{IsMap}
 use Rattle.free_groupoid.specs.TestWalks.{root_of, tree_walk, is_tree_edge, loop}
 use Rattle.free_groupoid.specs.Inner.{IsInner}
-use Rattle.free_groupoid.proofs.Letters.{reduce-reduce, reduce-left, reduce-right}
 use Rattle.free_groupoid.proofs.Names.{+0, -0, +1, -1, +2, -2, +3, +4, -5, +6, -6, +7, +8, by_fact, flat_map-respects}
-use Rattle.free_groupoid.proofs.Loops.{Laws, loop-odd}
+use Rattle.free_groupoid.proofs.Known.{Laws}
+use Rattle.free_groupoid.proofs.Loops.{loop-odd}
 use Rattle.free_groupoid.proofs.Collapse.{IsOuter}
-use Rattle.free_groupoid.proofs.Relations.{map_walk}
 
 -- the walk from the root r to its image carries each loop at r to its image
 pub record CarriesLoops (triples : List (List ℤ)) (f : ℤ → List ℤ) (f0 : ℕ → ℕ) (r : ℕ) (p : List ℤ) : Type 0 where
@@ -34,7 +33,7 @@ module _ (triples : List (List ℤ)) (l : Laws triples) (f : ℤ → List ℤ) (
       l.walks.join t (root_of triples t) (f0 t) (inverse_word (tree_walk triples t)) (p ++ flat_map f (tree_walk triples t))
       (l.walks.back (root_of triples t) t (tree_walk triples t) there)
       (l.walks.join (root_of triples t) (f0 (root_of triples t)) (f0 t) p (flat_map f (tree_walk triples t)) walk
-      (map_walk triples triples l.walks f f0 m (root_of triples t) t (tree_walk triples t) there))
+      (l.known.maps.walks.walks triples triples f f0 (root_of triples t) t (tree_walk triples t) l.triangulation m there))
 
   -- the equation at a letter, from that of its loop
   letter_equation : (p : List ℤ) (x : ℤ) → reduce (p ++ flat_map f (loop triples x)) ≡ reduce (loop triples x ++ p)
@@ -44,10 +43,10 @@ module _ (triples : List (List ℤ)) (l : Laws triples) (f : ℤ → List ℤ) (
   letter_equation p x e =
       ap reduce
       (append_assoc (inverse_word here) (p ++ flat_map f here) (f x) ∙ ap (λ (z : List ℤ). inverse_word here ++ z) (append_assoc p (flat_map f here) (f x)))
-      ∙ by_fact l.reduction l.substitution names (-0 ∷ +1 ∷ +2 ∷ +3 ∷ []) (-0 ∷ +1 ∷ +8 ∷ +6 ∷ []) (-0 ∷ +1 ∷ []) (+2 ∷ +3 ∷ -6 ∷ []) (+8 ∷ []) (+6 ∷ [])
+      ∙ by_fact l.known names (-0 ∷ +1 ∷ +2 ∷ +3 ∷ []) (-0 ∷ +1 ∷ +8 ∷ +6 ∷ []) (-0 ∷ +1 ∷ []) (+2 ∷ +3 ∷ -6 ∷ []) (+8 ∷ []) (+6 ∷ [])
       refl (ap reduce (sym image)) refl
-      ∙ by_fact l.reduction l.substitution names (-0 ∷ +1 ∷ +8 ∷ +6 ∷ []) (-0 ∷ +7 ∷ +1 ∷ +6 ∷ []) (-0 ∷ []) (+1 ∷ +8 ∷ []) (+7 ∷ +1 ∷ []) (+6 ∷ []) refl e refl
-      ∙ by_fact l.reduction l.substitution names (-0 ∷ +7 ∷ +1 ∷ +6 ∷ []) (+4 ∷ -5 ∷ +1 ∷ +6 ∷ []) (-0 ∷ []) (+7 ∷ []) (+0 ∷ +4 ∷ -5 ∷ []) (+1 ∷ +6 ∷ []) refl refl refl
+      ∙ by_fact l.known names (-0 ∷ +1 ∷ +8 ∷ +6 ∷ []) (-0 ∷ +7 ∷ +1 ∷ +6 ∷ []) (-0 ∷ []) (+1 ∷ +8 ∷ []) (+7 ∷ +1 ∷ []) (+6 ∷ []) refl e refl
+      ∙ by_fact l.known names (-0 ∷ +7 ∷ +1 ∷ +6 ∷ []) (+4 ∷ -5 ∷ +1 ∷ +6 ∷ []) (-0 ∷ []) (+7 ∷ []) (+0 ∷ +4 ∷ -5 ∷ []) (+1 ∷ +6 ∷ []) refl refl refl
     where
       here : List ℤ
       here = tree_walk triples (triangle_of triples x)
@@ -62,7 +61,7 @@ module _ (triples : List (List ℤ)) (l : Laws triples) (f : ℤ → List ℤ) (
       image : flat_map f (loop triples x) ≡ flat_map f here ++ (f x ++ inverse_word (flat_map f there))
       image =
           flat_map-append f here (x ∷ inverse_word there)
-          ∙ ap (λ (z : List ℤ). flat_map f here ++ (f x ++ z)) (l.substitution.back f there m.odd)
+          ∙ ap (λ (z : List ℤ). flat_map f here ++ (f x ++ z)) (l.known.maps.substitutions.back f there m.odd)
 
   pub inner_from_roots : (p : ℕ → List ℤ) → ((t : ℕ) → t < length triples → CarriesLoops triples f f0 (root_of triples t) (p (root_of triples t)))
       → IsInner triples f f0 (path_from triples f p)
@@ -77,10 +76,10 @@ module _ (triples : List (List ℤ)) (l : Laws triples) (f : ℤ → List ℤ) (
         let same : root_of triples t ≡ r = l.forest.component x label in
         let whole : List ℤ = inverse_word (tree_walk triples s) ++ (p r ++ flat_map f (tree_walk triples s)) in
         let other : List ℤ = inverse_word (tree_walk triples t) ++ (p (root_of triples t) ++ flat_map f (tree_walk triples t)) in
-        reduce-left l.reduction (path_from triples f p s) whole (f x) (reduce-reduce l.reduction whole)
+        l.known.words.reduction.left (path_from triples f p s) whole (f x) (l.known.words.reduction.twice whole)
         ∙ letter_equation (p r) x ((h s (l.triangles.triangle x label)).equation x label refl)
         ∙ ap (λ (i : ℕ). reduce (x ∷ (inverse_word (tree_walk triples t) ++ (p i ++ flat_map f (tree_walk triples t))))) (sym same)
-        ∙ reduce-right l.reduction (x ∷ []) other (path_from triples f p t) (sym (reduce-reduce l.reduction other));
+        ∙ l.known.words.reduction.right (x ∷ []) other (path_from triples f p t) (sym (l.known.words.reduction.twice other));
   }
 
   -- ---- a walk at a root, from the loops of the outer edges
@@ -88,26 +87,26 @@ module _ (triples : List (List ℤ)) (l : Laws triples) (f : ℤ → List ℤ) (
   -- the loop of a tree edge reduces to nothing
   tree_loop : (x : ℤ) → IsLabel triples x → is_tree_edge triples (edge_of x) ≡ true → reduce (loop triples x) ≡ []
   tree_loop x label tree =
-      by_fact l.reduction l.substitution
+      by_fact l.known
       (tree_walk triples (triangle_of triples x) ∷ (x ∷ []) ∷ tree_walk triples (triangle_of triples (inverse x)) ∷ [])
       (+0 ∷ +1 ∷ -2 ∷ []) [] [] (+0 ∷ +1 ∷ []) (+2 ∷ []) (-2 ∷ []) refl (l.forest.across x label tree) refl
 
   tree_equation : (p : List ℤ) (x : ℤ) → IsLabel triples x → is_tree_edge triples (edge_of x) ≡ true
       → reduce (p ++ flat_map f (loop triples x)) ≡ reduce (loop triples x ++ p)
   tree_equation p x label tree =
-      reduce-right l.reduction p (flat_map f (loop triples x)) []
-      (flat_map-respects l.reduction l.substitution f (loop triples x) [] m.odd (tree_loop x label tree))
+      l.known.words.reduction.right p (flat_map f (loop triples x)) []
+      (flat_map-respects l.known f (loop triples x) [] m.odd (tree_loop x label tree))
       ∙ ap reduce (append-nil p)
-      ∙ reduce-left l.reduction [] (loop triples x) p (sym (tree_loop x label tree))
+      ∙ l.known.words.reduction.left [] (loop triples x) p (sym (tree_loop x label tree))
 
   -- the equation of a loop gives that of the loop backwards
   back_equation : (p : List ℤ) (x : ℤ) → reduce (p ++ flat_map f (loop triples x)) ≡ reduce (loop triples x ++ p)
       → reduce (p ++ flat_map f (loop triples (inverse x))) ≡ reduce (loop triples (inverse x) ++ p)
   back_equation p x e =
-      ap (λ (z : List ℤ). reduce (p ++ z)) (ap (flat_map f) (loop-odd triples x) ∙ l.substitution.back f (loop triples x) m.odd)
-      ∙ by_fact l.reduction l.substitution (p ∷ flat_map f (loop triples x) ∷ loop triples x ∷ []) (+0 ∷ -1 ∷ []) (-2 ∷ +0 ∷ [])
+      ap (λ (z : List ℤ). reduce (p ++ z)) (ap (flat_map f) (loop-odd l.known triples x) ∙ l.known.maps.substitutions.back f (loop triples x) m.odd)
+      ∙ by_fact l.known (p ∷ flat_map f (loop triples x) ∷ loop triples x ∷ []) (+0 ∷ -1 ∷ []) (-2 ∷ +0 ∷ [])
       (-2 ∷ []) (+2 ∷ +0 ∷ []) (+0 ∷ +1 ∷ []) (-1 ∷ []) refl (sym e) refl
-      ∙ ap (λ (z : List ℤ). reduce (z ++ p)) (sym (loop-odd triples x))
+      ∙ ap (λ (z : List ℤ). reduce (z ++ p)) (sym (loop-odd l.known triples x))
 
   -- the loops of outer edges decide
   pub carries_loops : (r : ℕ) (p : List ℤ) → IsWalk triples r p (f0 r)

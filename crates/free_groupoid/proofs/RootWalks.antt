@@ -11,14 +11,12 @@ use Rattle.tri_atlas.specs.Maps.{IsMap}
 use Rattle.free_groupoid.specs.TestWalks.{root_of, tree_walk, is_tree_edge, loop, outer_edges, edges_at, test_walks}
 use Rattle.free_groupoid.specs.Inner.{IsKept}
 use Rattle.free_groupoid.specs.inside.InnerPaths.{collapse, collapsed_image}
-use Rattle.free_groupoid.proofs.Letters.{edge_of-inverse, reduce-reduce, reduce-right}
-use Rattle.free_groupoid.proofs.Sides.{inverse_label}
 use Rattle.free_groupoid.proofs.Reduced.{All-parts}
 use Rattle.free_groupoid.proofs.Carrying.{Carries, carries-rotation, kept-carries}
 use Rattle.free_groupoid.proofs.Collapse.{IsOuter, collapse-trees}
-use Rattle.free_groupoid.proofs.Loops.{Laws, loop_closed, loops_closed, collapse-loops}
+use Rattle.free_groupoid.proofs.Known.{Laws}
+use Rattle.free_groupoid.proofs.Loops.{loop_closed, loops_closed, collapse-loops}
 use Rattle.free_groupoid.proofs.Telescope.{IsIn, collapse_injective}
-use Rattle.free_groupoid.proofs.Relations.{map_walk}
 use Rattle.free_groupoid.proofs.OuterEdges.{edge_at_outer, edge_at_edge, outer_edge_at}
 use Rattle.free_groupoid.proofs.TestLists.{loop_walk, loop_tested}
 use Rattle.free_groupoid.proofs.ClosedWords.{core_letters, loop_collapsed, empty_core}
@@ -27,8 +25,8 @@ use Rattle.free_groupoid.proofs.RootPaths.{CarriesLoops, carries_loops}
 -- the inverse of an outer label is one
 pub outer_back : (triples : List (List ℤ)) (l : Laws triples) (r : ℕ) (x : ℤ) → IsOuter triples r x → IsOuter triples r (inverse x)
 outer_back triples l r x h = record {
-  label = inverse_label triples x h.label;
-  outside = ap (is_tree_edge triples) (edge_of-inverse x) ∙ h.outside;
+  label = l.known.labels.label triples x h.label;
+  outside = ap (is_tree_edge triples) (l.known.labels.edge x) ∙ h.outside;
   root = l.forest.component x h.label ∙ h.root;
 }
 
@@ -51,15 +49,15 @@ module _ (triples : List (List ℤ)) (l : Laws triples) (f : ℤ → List ℤ) (
       let w : List ℤ = loop triples (pos e) in
       let outer : IsOuter triples r (pos e) = edge_at_outer triples r e h in
       let closed : IsWalk triples r w r = loop_closed triples l (pos e) r outer.label outer.root in
-      let (q, carries) = kept-carries l.reduction l.substitution l.cyclic f w m.odd
+      let (q, carries) = kept-carries l.known f w m.odd
       (All-contains (IsKept f) (test_walks triples) (loop_walk triples e) kept (loop_tested triples e (edge_at_edge triples r e h))) in
       let not_empty : cyclic_reduce w ≡ [] → ⊥ = λ none.
       (let nothing : pos e ∷ [] ≡ [] = sym (ap reduce (loop_collapsed triples l r e outer)) ∙ empty_core triples l r w none in cc) in
       one_component triples l r (root_of triples (f0 r)) (cyclic_reduce w) (cyclic_reduce (flat_map f w))
-      (carries-rotation l.reduction l.substitution l.cyclic q w (flat_map f w) carries) not_empty
+      (carries-rotation l.known q w (flat_map f w) carries) not_empty
       (core_letters triples l r r r w own closed)
       (core_letters triples l (root_of triples (f0 r)) (f0 r) (f0 r) (flat_map f w) refl
-      (map_walk triples triples l.walks f f0 m r r w closed))
+      (l.known.maps.walks.walks triples triples f f0 r r w l.triangulation m closed))
 
   -- the loops of the letters of a word, and the walk to the image of the root
   abbrev spread_to : List ℤ → List ℤ
@@ -88,12 +86,12 @@ module _ (triples : List (List ℤ)) (l : Laws triples) (f : ℤ → List ℤ) (
           let w : List ℤ = loop triples (pos e) in
           let closed : IsWalk triples r w r = loop_closed triples l (pos e) r out.label out.root in
           collapse_injective triples l r r (f0 r) (spread_to h ++ flat_map f w) (w ++ spread_to h) own
-          (l.walks.join r (f0 r) (f0 r) (spread_to h) (flat_map f w) walk (map_walk triples triples l.walks f f0 m r r w closed))
+          (l.walks.join r (f0 r) (f0 r) (spread_to h) (flat_map f w) walk (l.known.maps.walks.walks triples triples f f0 r r w l.triangulation m closed))
           (l.walks.join r r (f0 r) w (spread_to h) closed walk)
           (ap reduce (flat_map-append (collapse triples r) (spread_to h) (flat_map f w))
           ∙ ap (λ (z : List ℤ). reduce (z ++ flat_map (collapse triples r) (flat_map f w))) (spread_collapsed h below outer)
-          ∙ reduce-right l.reduction h (flat_map (collapse triples r) (flat_map f w)) (collapsed_image triples f r e)
-          (sym (reduce-reduce l.reduction (flat_map (collapse triples r) (flat_map f w))))
+          ∙ l.known.words.reduction.right h (flat_map (collapse triples r) (flat_map f w)) (collapsed_image triples f r e)
+          (sym (l.known.words.reduction.twice (flat_map (collapse triples r) (flat_map f w))))
           ∙ sym (carries e (outer_edge_at triples l.forest r (pos e) out))
           ∙ ap reduce
           (sym

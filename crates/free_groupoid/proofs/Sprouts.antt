@@ -5,10 +5,8 @@ use Rattle.std.proofs.lemmas.Bool.{ne_eqb}
 use Rattle.std.proofs.lemmas.List.Elements.{Contains-append_left, Contains-push}
 use Rattle.ideal_tri.specs.Labels.{inverse, edge_of}
 use Rattle.ideal_tri.specs.Triangulations.{IsLabel, triangle_of, next}
-use Rattle.ideal_tri.specs.SurfaceLaws.{TriangleLaws}
 use Rattle.free_groupoid.specs.TestWalks.{Node, node_beyond, is_reached}
-use Rattle.free_groupoid.proofs.Letters.{inverse-inverse, two_labels, same_or_not}
-use Rattle.free_groupoid.proofs.Sides.{inverse_label}
+use Rattle.free_groupoid.proofs.Known.{Glued}
 use Rattle.free_groupoid.proofs.Nodes.{not_reached, still_uncrossed, ends_across-push}
 use Rattle.free_groupoid.proofs.Forests.{IsFree, AreFree, IsForest, uncrossed, free_reached}
 
@@ -22,14 +20,14 @@ pub record IsOpen (triples : List (List ℤ)) (nodes : List Node) (n : Node) (x 
 abbrev pub sprouted : List (List ℤ) → List Node → Node → ℤ → List Node
 sprouted triples nodes n x = nodes ++ (node_beyond triples n x ∷ [])
 
-module _ (triples : List (List ℤ)) (t : TriangleLaws triples) (nodes : List Node) (f : IsForest triples nodes) (n : Node) (x : ℤ)
+module _ (triples : List (List ℤ)) (glue : Glued triples) (nodes : List Node) (f : IsForest triples nodes) (n : Node) (x : ℤ)
     (open_side : IsOpen triples nodes n x) where
   -- the side after x inverse
   abbrev fresh : ℤ
   fresh = next triples (inverse x)
 
   fresh_at : triangle_of triples fresh ≡ triangle_of triples (inverse x)
-  fresh_at = t.stays (inverse x) (inverse_label triples x open_side.label)
+  fresh_at = glue.triangles.stays (inverse x) (glue.known.labels.label triples x open_side.label)
 
   -- ---- free labels
 
@@ -48,34 +46,34 @@ module _ (triples : List (List ℤ)) (t : TriangleLaws triples) (nodes : List No
     where
       other_edge : edge_of x ≢ edge_of a
       other_edge e =
-          elim (two_labels x a e) [
+          elim (glue.known.labels.of_edge x a e) [
             | inl same ↦ ne (sym same)
             | inr turned ↦
                 free_reached triples nodes r a (inverse x) h open_side.new
-                (ap (triangle_of triples) (sym (inverse-inverse a) ∙ ap inverse (sym turned)))
+                (ap (triangle_of triples) (sym (glue.known.labels.twice a) ∙ ap inverse (sym turned)))
           ]
 
   -- the side after x inverse is free
   fresh_free : IsFree triples (sprouted triples nodes n x) n.root fresh
   fresh_free = record {
-    label = t.label (inverse x) (inverse_label triples x open_side.label);
+    label = glue.triangles.label (inverse x) (glue.known.labels.label triples x open_side.label);
     node = node_beyond triples n x;
     there = Contains-push nodes (node_beyond triples n x);
     at = sym fresh_at;
     root = refl;
     free =
         still_uncrossed nodes (node_beyond triples n x) (edge_of fresh)
-        (uncrossed triples nodes fresh f (ap (is_reached nodes) fresh_at ∙ open_side.new))
+        (uncrossed triples glue nodes fresh f (ap (is_reached nodes) fresh_at ∙ open_side.new))
         (ends_across-push (edge_of fresh) n.walk x ∙ ne_eqb (edge_of x) (edge_of fresh) other_edge);
   }
     where
       other_edge : edge_of x ≢ edge_of fresh
       other_edge e =
-          elim (two_labels fresh x (sym e)) [
+          elim (glue.known.labels.of_edge fresh x (sym e)) [
             | inl same ↦
                 not_reached nodes n (triangle_of triples (inverse x)) open_side.new open_side.there
                 (sym open_side.at ∙ ap (triangle_of triples) (sym same) ∙ fresh_at)
-            | inr turned ↦ (t.moves (inverse x) (inverse_label triples x open_side.label)).0 turned
+            | inr turned ↦ (glue.triangles.moves (inverse x) (glue.known.labels.label triples x open_side.label)).0 turned
           ]
 
   -- a free label, or the one in its place where it was x
@@ -86,7 +84,7 @@ module _ (triples : List (List ℤ)) (t : TriangleLaws triples) (nodes : List No
 
   replace : (r : ℕ) (a : ℤ) → IsFree triples nodes r a → Replaced r a
   replace r a h =
-      elim (same_or_not a x) [
+      elim (glue.known.labels.same_or_not a x) [
         | inr ne ↦ record { label = a; free = stays_free r a h ne; how = inl refl }
         | inl e ↦
             (let same : h.node ≡ n = f.one h.node n h.there open_side.there (h.at ∙ ap (triangle_of triples) e ∙ open_side.at) in

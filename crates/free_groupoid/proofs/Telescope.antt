@@ -8,9 +8,9 @@ use Rattle.ideal_tri.specs.Words.{inverse_word, reduce}
 use Rattle.ideal_tri.specs.Triangulations.{IsLabel, IsWalk, triangle_of}
 use Rattle.free_groupoid.specs.TestWalks.{root_of, tree_walk, loop}
 use Rattle.free_groupoid.specs.inside.InnerPaths.{collapse}
-use Rattle.free_groupoid.proofs.Letters.{reduce-left, reduce-right}
 use Rattle.free_groupoid.proofs.Names.{+0, -0, +1, +2, -2, +3, +4, +5, +6, by_name, by_fact, flat_map-respects}
-use Rattle.free_groupoid.proofs.Loops.{Laws, loop-odd, telescope_letter}
+use Rattle.free_groupoid.proofs.Known.{Laws}
+use Rattle.free_groupoid.proofs.Loops.{loop-odd, telescope_letter}
 
 module _ (triples : List (List ℤ)) (l : Laws triples) where
   -- a walk stays in its component
@@ -40,12 +40,12 @@ module _ (triples : List (List ℤ)) (l : Laws triples) where
         → reduce w ≡ reduce (inverse_word (tree_walk triples s) ++ (spread w ++ tree_walk triples t))
     telescope s t [] root h =
         subst (λ (i : ℕ). reduce [] ≡ reduce (inverse_word (tree_walk triples s) ++ tree_walk triples i)) h
-        (by_name l.reduction l.substitution (tree_walk triples s ∷ []) [] (-0 ∷ +0 ∷ []) refl)
+        (by_name l.known (tree_walk triples s ∷ []) [] (-0 ∷ +0 ∷ []) refl)
     telescope s t (x ∷ w) root h =
-        by_fact l.reduction l.substitution names (+1 ∷ +6 ∷ []) (-0 ∷ +3 ∷ +2 ∷ +6 ∷ []) [] (+1 ∷ []) (-0 ∷ +3 ∷ +2 ∷ []) (+6 ∷ []) refl
+        by_fact l.known names (+1 ∷ +6 ∷ []) (-0 ∷ +3 ∷ +2 ∷ +6 ∷ []) [] (+1 ∷ []) (-0 ∷ +3 ∷ +2 ∷ []) (+6 ∷ []) refl
         (subst (λ (i : ℕ). reduce (x ∷ []) ≡ reduce (inverse_word (tree_walk triples i) ++ (flat_map (loop triples) (collapse triples r x) ++ between))) h.1
         (telescope_letter triples l r x h.0 here)) refl
-        ∙ by_fact l.reduction l.substitution names (-0 ∷ +3 ∷ +2 ∷ +6 ∷ []) (-0 ∷ +3 ∷ +4 ∷ +5 ∷ []) (-0 ∷ +3 ∷ +2 ∷ []) (+6 ∷ []) (-2 ∷ +4 ∷ +5 ∷ []) [] refl
+        ∙ by_fact l.known names (-0 ∷ +3 ∷ +2 ∷ +6 ∷ []) (-0 ∷ +3 ∷ +4 ∷ +5 ∷ []) (-0 ∷ +3 ∷ +2 ∷ []) (+6 ∷ []) (-2 ∷ +4 ∷ +5 ∷ []) [] refl
         (telescope (triangle_of triples (inverse x)) t w (l.forest.component x h.0 ∙ here) h.2) refl
         ∙ ap (λ (z : List ℤ). reduce (inverse_word (tree_walk triples s) ++ z))
         (sym (append_assoc (flat_map (loop triples) (collapse triples r x)) (spread w) (tree_walk triples t))
@@ -67,7 +67,7 @@ module _ (triples : List (List ℤ)) (l : Laws triples) where
         → reduce (flat_map (collapse triples r) u) ≡ reduce (flat_map (collapse triples r) v) → reduce u ≡ reduce v
     collapse_injective s t u v root of_u of_v e =
         telescope s t u root of_u
-        ∙ reduce-right l.reduction (inverse_word (tree_walk triples s)) (spread u ++ tree_walk triples t) (spread v ++ tree_walk triples t)
-        (reduce-left l.reduction (spread u) (spread v) (tree_walk triples t)
-        (flat_map-respects l.reduction l.substitution (loop triples) (flat_map (collapse triples r) u) (flat_map (collapse triples r) v) (loop-odd triples) e))
+        ∙ l.known.words.reduction.right (inverse_word (tree_walk triples s)) (spread u ++ tree_walk triples t) (spread v ++ tree_walk triples t)
+        (l.known.words.reduction.left (spread u) (spread v) (tree_walk triples t)
+        (flat_map-respects l.known (loop triples) (flat_map (collapse triples r) u) (flat_map (collapse triples r) v) (loop-odd l.known triples) e))
         ∙ sym (telescope s t v root of_v)

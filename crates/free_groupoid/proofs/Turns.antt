@@ -8,10 +8,8 @@ use Rattle.std.specs.List.{Contains}
 use Rattle.std.proofs.lemmas.List.Elements.{Contains-append_left, Contains-append_cases}
 use Rattle.ideal_tri.specs.Labels.{inverse}
 use Rattle.ideal_tri.specs.Triangulations.{IsLabel, triangle_of}
-use Rattle.ideal_tri.specs.SurfaceLaws.{TriangleLaws, WalkLaws}
 use Rattle.free_groupoid.specs.TestWalks.{Node, is_reached}
-use Rattle.free_groupoid.proofs.Letters.{inverse-inverse}
-use Rattle.free_groupoid.proofs.Sides.{inverse_label}
+use Rattle.free_groupoid.proofs.Known.{Glued}
 use Rattle.free_groupoid.proofs.Members.{member_here, member_later, member_cases}
 use Rattle.free_groupoid.proofs.Nodes.{reaching_node, missing}
 use Rattle.free_groupoid.proofs.Forests.{IsForest}
@@ -58,7 +56,7 @@ pub closed_more : (triples : List (List ℤ)) (nodes more : List Node) (n : Node
     → IsClosed triples nodes n → IsClosed triples more n
 closed_more triples nodes more n into c = record { beyond = λ x label at. beyond_more triples nodes more n x into (c.beyond x label at) }
 
-module _ (triples : List (List ℤ)) (t : TriangleLaws triples) (w : WalkLaws triples) (r bound : ℕ) (n : Node) (done : List Node) where
+module _ (triples : List (List ℤ)) (glue : Glued triples) (r bound : ℕ) (n : Node) (done : List Node) where
   -- ---- a side whose other triangle is reached
 
   reached_beyond : (todo : List Node) (x : ℤ) (sides : List ℤ) → IsTurning triples r bound n done todo (x ∷ sides)
@@ -76,14 +74,14 @@ module _ (triples : List (List ℤ)) (t : TriangleLaws triples) (w : WalkLaws tr
           sym b.root
           ∙ ap (λ (k : Node). k.root)
           (g.forest.one b.node n b.there (Contains-append_left done todo n g.here)
-          (b.at ∙ ap (triangle_of triples) (inverse-inverse x) ∙ side.1))
+          (b.at ∙ ap (triangle_of triples) (glue.known.labels.twice x) ∙ side.1))
 
       same_root : (m : Node) → m.triangle ≡ triangle_of triples (inverse x) → Contains done m ⊎ Contains todo m → m.root ≡ n.root
       same_root m at (inr waits) = g.waiting m waits ∙ sym g.mine
       same_root m at (inl had) =
           elim (g.closed m had) [
             | inl same ↦ ap (λ (k : Node). k.root) same
-            | inr c ↦ back m (c.beyond (inverse x) (inverse_label triples x side.0) (sym at))
+            | inr c ↦ back m (c.beyond (inverse x) (glue.known.labels.label triples x side.0) (sym at))
           ]
 
   pub turn_past : (todo : List Node) (x : ℤ) (sides : List ℤ) → IsTurning triples r bound n done todo (x ∷ sides)

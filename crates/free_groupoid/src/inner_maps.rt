@@ -6,15 +6,17 @@ ghost use Rattle.free_groupoid.specs.ForestLaws.{ForestLaws};
 ghost use Rattle.free_groupoid.specs.InnerLaws.{InnerLaws, InnerMapLaws};
 ghost use Rattle.free_groupoid.specs.RelatedLaws.{RelatedLaws, RelationLaws};
 
-use ideal_tri::{surface_laws, word_laws};
+use ideal_tri::{label_laws, surface_laws, word_laws};
 use tri_atlas::map_laws;
 
 /// What is proved of the spanning forest of a triangulation.
 pub fn forest_laws()
     ensures { (triples : List (List ℤ)) → IsTriangulation triples → ForestLaws triples }
 {
+    label_laws();
     word_laws();
     surface_laws();
+    map_laws();
 }
 
 /// What is proved of inner maps: that finitely many closed walks decide whether a map is inner, and
@@ -23,6 +25,7 @@ pub fn inner_laws()
     ensures test { InnerLaws }
     ensures maps { InnerMapLaws }
 {
+    label_laws();
     word_laws();
     surface_laws();
     map_laws();
@@ -35,6 +38,7 @@ pub fn related_laws()
     ensures test { RelatedLaws }
     ensures relations { RelationLaws }
 {
+    label_laws();
     word_laws();
     surface_laws();
     map_laws();
