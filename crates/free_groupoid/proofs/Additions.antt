@@ -4,7 +4,7 @@ use Rattle.std.specs.List.{Contains}
 use Rattle.std.proofs.lemmas.List.Elements.{Contains-append_left, Contains-push, Contains-push_cases}
 use Rattle.ideal_tri.specs.Labels.{inverse, edge_of}
 use Rattle.ideal_tri.specs.Triangulations.{IsLabel, IsWalk, triangle_of, next, previous}
-use Rattle.free_groupoid.specs.TestWalks.{Node, root_node, node_beyond, is_reached}
+use Rattle.free_groupoid.specs.TestWalks.{Node, root_node, node_beyond, has_node}
 use Rattle.free_groupoid.proofs.Known.{Glued}
 use Rattle.free_groupoid.proofs.Sides.{SideOf}
 use Rattle.free_groupoid.proofs.Nodes.{not_reached, still_uncrossed}
@@ -23,7 +23,7 @@ each_node P nodes new old here m h =
 
 -- no two nodes at one triangle, where the triangle of one more is new
 still_one : (nodes : List Node) (new : Node) → ((m n : Node) → Contains nodes m → Contains nodes n → m.triangle ≡ n.triangle → m ≡ n)
-    → is_reached nodes new.triangle ≡ false
+    → has_node nodes new.triangle ≡ false
     → (m n : Node) → Contains (nodes ++ (new ∷ [])) m → Contains (nodes ++ (new ∷ [])) n → m.triangle ≡ n.triangle → m ≡ n
 still_one nodes new one none m n h k =
     each_node (λ m. (n : Node) → Contains (nodes ++ (new ∷ [])) n → m.triangle ≡ n.triangle → m ≡ n) nodes new
@@ -78,7 +78,7 @@ module _ (triples : List (List ℤ)) (glue : Glued triples) (nodes : List Node) 
 
   -- ---- a root
 
-  module _ (r : ℕ) (below : r < length triples) (new : is_reached nodes r ≡ false) (s : SideOf triples r) where
+  module _ (r : ℕ) (below : r < length triples) (new : has_node nodes r ≡ false) (s : SideOf triples r) where
     abbrev with_root : List Node
     with_root = nodes ++ (root_node r ∷ [])
 
@@ -112,7 +112,7 @@ module _ (triples : List (List ℤ)) (glue : Glued triples) (nodes : List Node) 
       there = Contains-push nodes (root_node r);
       at = sym at;
       root = refl;
-      free = still_uncrossed nodes (root_node r) (edge_of a) (uncrossed triples glue nodes a f (ap (is_reached nodes) at ∙ new)) refl;
+      free = still_uncrossed nodes (root_node r) (edge_of a) (uncrossed triples glue nodes a f (ap (has_node nodes) at ∙ new)) refl;
     }
 
     -- the three sides of the root

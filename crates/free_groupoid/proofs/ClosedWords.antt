@@ -77,6 +77,10 @@ module _ (triples : List (List ℤ)) (l : Laws triples) where
   loop_at : (e : ℕ) → Contains (outer_edges triples) e → IsWalk triples (root_of_edge triples e) (loop triples (pos e)) (root_of_edge triples e)
   loop_at e h = loop_closed triples l (pos e) (root_of_edge triples e) (edge_outer triples e h).label refl
 
+  product_at : (r i j : ℕ) → IsWalk triples r (loop triples (pos i)) r → IsWalk triples r (loop triples (pos j)) r
+      → IsWalk triples r (loop triples (pos i) ++ loop triples (pos j)) r
+  product_at r i j h k = l.walks.join r r r (loop triples (pos i)) (loop triples (pos j)) h k
+
   pub loop_collapsed : (r e : ℕ) → IsOuter triples r (pos e) → flat_map (collapse triples r) (loop triples (pos e)) ≡ pos e ∷ []
   loop_collapsed r e h = collapse-loop triples l r (pos e) h.label ∙ collapse-outer triples l.forest r (pos e) h
 
@@ -86,6 +90,13 @@ module _ (triples : List (List ℤ)) (l : Laws triples) where
       flat_map-append (collapse triples r) (loop triples (pos i)) (loop triples (pos j))
       ∙ ap (λ (z : List ℤ). z ++ flat_map (collapse triples r) (loop triples (pos j))) (loop_collapsed r i h)
       ∙ ap (λ (z : List ℤ). pos i ∷ z) (loop_collapsed r j k)
+
+  -- each test walk is the cyclic reduction of a closed walk
+  pub each_closed : (P : List ℤ → Type 0) → ((t : ℕ) (w : List ℤ) → IsWalk triples t w t → P (cyclic_reduce w)) → All P (test_walks triples)
+  each_closed P h =
+      each_test triples P (λ e k. h (root_of_edge triples e) (loop triples (pos e)) (loop_at e k))
+      (λ i j k n e. h (root_of_edge triples i) (loop triples (pos i) ++ loop triples (pos j))
+      (product_at (root_of_edge triples i) i j (loop_at i k) (subst (λ (a : ℕ). IsWalk triples a (loop triples (pos j)) a) e (loop_at j n))))
 
   -- a closed walk that doesn't collapse to nothing
   reduced_loop : (r s : ℕ) (w : List ℤ) (x : ℤ) (rest : List ℤ) → IsWalk triples s w s → flat_map (collapse triples r) w ≡ x ∷ rest
@@ -110,6 +121,6 @@ module _ (triples : List (List ℤ)) (l : Laws triples) where
       (loop_collapsed (root_of_edge triples e) e (edge_outer triples e h)) tt)
       (λ i j h k e. let second : IsOuter triples (root_of_edge triples i) (pos j) = subst (λ (a : ℕ). IsOuter triples a (pos j)) e (edge_outer triples j k) in
       reduced_loop (root_of_edge triples i) (root_of_edge triples i) (loop triples (pos i) ++ loop triples (pos j)) (pos i) (pos j ∷ [])
-      (l.walks.join (root_of_edge triples i) (root_of_edge triples i) (root_of_edge triples i) (loop triples (pos i)) (loop triples (pos j)) (loop_at i h)
+      (product_at (root_of_edge triples i) i j (loop_at i h)
       (subst (λ (a : ℕ). IsWalk triples a (loop triples (pos j)) a) e (loop_at j k)))
       (product_collapsed (root_of_edge triples i) i j (edge_outer triples i h) second) (λ c. cc, tt))

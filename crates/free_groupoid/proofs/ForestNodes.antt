@@ -8,7 +8,7 @@ use Rattle.ideal_tri.specs.Labels.{inverse, edge_of}
 use Rattle.ideal_tri.specs.Words.{reduce}
 use Rattle.ideal_tri.specs.WordLaws.{ReductionLaws}
 use Rattle.ideal_tri.specs.Triangulations.{IsLabel, IsWalk, triangle_of}
-use Rattle.free_groupoid.specs.TestWalks.{Node, root_node, node_at, is_reached, ends_across}
+use Rattle.free_groupoid.specs.TestWalks.{Node, root_node, node_at, has_node, ends_across}
 use Rattle.free_groupoid.proofs.Known.{Glued}
 use Rattle.free_groupoid.proofs.Members.{member_here, member_later}
 use Rattle.free_groupoid.proofs.Nodes.{is_crossed, crossed_by, crossing_node, ends_across-push}
@@ -22,7 +22,7 @@ pub record IsNodeAt (nodes : List Node) (t : ℕ) (n : Node) : Type 0 where
   pub there : Contains nodes n
   pub at : n.triangle ≡ t
 
-found : (nodes : List Node) (t : ℕ) → is_reached nodes t ≡ true → IsNodeAt nodes t (node_at nodes t)
+found : (nodes : List Node) (t : ℕ) → has_node nodes t ≡ true → IsNodeAt nodes t (node_at nodes t)
 found [] t h = absurd (false≢true h)
 found (n ∷ nodes) t h =
     elim (cases_Bool (nat_eq n.triangle t)) [
@@ -30,7 +30,7 @@ found (n ∷ nodes) t h =
           subst (IsNodeAt (n ∷ nodes) t) (sym (cond-true (nat_eq n.triangle t) n (node_at nodes t) here))
           (record { there = member_here n nodes; at = eqb-true n.triangle t here })
       | inr later ↦
-          (let rest : IsNodeAt nodes t (node_at nodes t) = found nodes t (ap (λ (b : Bool). b || is_reached nodes t) (sym later) ∙ h) in
+          (let rest : IsNodeAt nodes t (node_at nodes t) = found nodes t (ap (λ (b : Bool). b || has_node nodes t) (sym later) ∙ h) in
           subst (IsNodeAt (n ∷ nodes) t) (sym (cond-false (nat_eq n.triangle t) n (node_at nodes t) later))
           (record { there = member_later n nodes (node_at nodes t) rest.there; at = rest.at }))
     ]

@@ -9,7 +9,7 @@ use Rattle.std.specs.List.{Contains}
 use Rattle.std.proofs.lemmas.Bool.{eqb-true, false_from_ne_true, false≢true, both_ways}
 use Rattle.ideal_tri.specs.Labels.{edge_of}
 use Rattle.ideal_tri.specs.Triangulations.{IsLabel, IsWalk, triangle_of}
-use Rattle.free_groupoid.specs.TestWalks.{Node, root_node, node_beyond, is_reached, ends_across}
+use Rattle.free_groupoid.specs.TestWalks.{Node, root_node, node_beyond, has_node, ends_across}
 use Rattle.free_groupoid.proofs.Known.{Glued}
 use Rattle.free_groupoid.proofs.Nodes.{node_reaches, not_reached, is_crossed, crossing_node, ends_across-push}
 
@@ -57,7 +57,7 @@ pub record IsForest (triples : List (List ℤ)) (nodes : List Node) : Type 0 whe
 
 -- the last step of a node starts and ends at reached triangles
 last_step : (triples : List (List ℤ)) (glue : Glued triples) (nodes : List Node) (n : Node) (x : ℤ) → Contains nodes n → ends_across (edge_of x) n.walk ≡ true
-    → (n ≡ root_node n.triangle) ⊎ StandsBeyond triples nodes n → is_reached nodes (triangle_of triples x) ≡ true
+    → (n ≡ root_node n.triangle) ⊎ StandsBeyond triples nodes n → has_node nodes (triangle_of triples x) ≡ true
 last_step triples glue nodes n x there ends (inl root) = absurd (false≢true (ap (λ (m : Node). ends_across (edge_of x) m.walk) (sym root) ∙ ends))
 last_step triples glue nodes n x there ends (inr b) =
     elim (glue.known.labels.of_edge x b.side (sym (eqb-true (edge_of b.side) (edge_of x) across))) [
@@ -73,14 +73,14 @@ last_step triples glue nodes n x there ends (inr b) =
         ∙ ends
 
 -- no edge of a new triangle is crossed
-pub uncrossed : (triples : List (List ℤ)) (glue : Glued triples) (nodes : List Node) (x : ℤ) → IsForest triples nodes → is_reached nodes (triangle_of triples x) ≡ false
+pub uncrossed : (triples : List (List ℤ)) (glue : Glued triples) (nodes : List Node) (x : ℤ) → IsForest triples nodes → has_node nodes (triangle_of triples x) ≡ false
     → is_crossed nodes (edge_of x) ≡ false
 uncrossed triples glue nodes x f new =
     false_from_ne_true (is_crossed nodes (edge_of x))
     (λ h. let (n, there, ends) = crossing_node nodes (edge_of x) h in
-    both_ways (is_reached nodes (triangle_of triples x)) new (last_step triples glue nodes n x there ends (f.comes n there)))
+    both_ways (has_node nodes (triangle_of triples x)) new (last_step triples glue nodes n x there ends (f.comes n there)))
 
 -- the triangle of a free label is reached
 pub free_reached : (triples : List (List ℤ)) (nodes : List Node) (r : ℕ) (x y : ℤ) → IsFree triples nodes r x
-    → is_reached nodes (triangle_of triples y) ≡ false → triangle_of triples x ≢ triangle_of triples y
+    → has_node nodes (triangle_of triples y) ≡ false → triangle_of triples x ≢ triangle_of triples y
 free_reached triples nodes r x y h new e = not_reached nodes h.node (triangle_of triples y) new h.there (h.at ∙ e)

@@ -8,7 +8,7 @@ use Rattle.std.proofs.lemmas.Bool.{cases_Bool, cond-true, cond-false, cases_lt, 
 use Rattle.std.proofs.lemmas.List.Elements.{Contains-append_left, Contains-push, Contains-push_cases}
 use Rattle.ideal_tri.specs.Labels.{inverse}
 use Rattle.ideal_tri.specs.Triangulations.{IsLabel, triangle_of}
-use Rattle.free_groupoid.specs.TestWalks.{Node, node_beyond, is_reached, sprout}
+use Rattle.free_groupoid.specs.TestWalks.{Node, node_beyond, has_node, sprout}
 use Rattle.free_groupoid.proofs.Known.{Glued}
 use Rattle.free_groupoid.proofs.Members.{member_here, member_later, member_cases, no_member}
 use Rattle.free_groupoid.proofs.Nodes.{still_reached, missing, missing-new}
@@ -21,7 +21,7 @@ module _ (triples : List (List ℤ)) (glue : Glued triples) (r bound : ℕ) (n :
   -- ---- a side whose other triangle is new
 
   turn_new : (todo : List Node) (x : ℤ) (sides : List ℤ) → IsTurning triples r bound n done todo (x ∷ sides)
-      → is_reached (done ++ todo) (triangle_of triples (inverse x)) ≡ false
+      → has_node (done ++ todo) (triangle_of triples (inverse x)) ≡ false
       → IsTurning triples r bound n done (todo ++ (node_beyond triples n x ∷ [])) sides
   turn_new todo x sides g h = record {
     forest = subst (IsForest triples) regroup (sprouted_forest triples glue (done ++ todo) g.forest n x is_open least);
@@ -62,15 +62,15 @@ module _ (triples : List (List ℤ)) (glue : Glued triples) (r bound : ℕ) (n :
       least : n.root ≤ triangle_of triples (inverse x)
       least =
           elim (cases_lt (triangle_of triples (inverse x)) r) [
-            | inl lower ↦ absurd (both_ways (is_reached (done ++ todo) (triangle_of triples (inverse x))) h (g.below (triangle_of triples (inverse x)) lower))
+            | inl lower ↦ absurd (both_ways (has_node (done ++ todo) (triangle_of triples (inverse x))) h (g.below (triangle_of triples (inverse x)) lower))
             | inr above ↦ omega (arith, above, g.mine)
           ]
 
       into : (m : Node) → Contains (done ++ todo) m → Contains more m
       into m k = subst (λ (ms : List Node). Contains ms m) regroup (Contains-append_left (done ++ todo) (new ∷ []) m k)
 
-      reached : (i : ℕ) → is_reached (done ++ todo) i ≡ true → is_reached more i ≡ true
-      reached i k = ap (λ (ms : List Node). is_reached ms i) (sym regroup) ∙ still_reached (done ++ todo) new i k
+      reached : (i : ℕ) → has_node (done ++ todo) i ≡ true → has_node more i ≡ true
+      reached i k = ap (λ (ms : List Node). has_node ms i) (sym regroup) ∙ still_reached (done ++ todo) new i k
 
       still_closed : (m : Node) → (m ≡ n) ⊎ IsClosed triples (done ++ todo) m → (m ≡ n) ⊎ IsClosed triples more m
       still_closed m (inl e) = inl e
@@ -119,14 +119,14 @@ module _ (triples : List (List ℤ)) (glue : Glued triples) (r bound : ℕ) (n :
       → IsGrowing triples r bound done (sprout triples n sides done todo)
   turn [] todo g = turned todo g
   turn (x ∷ sides) todo g =
-      elim (cases_Bool (is_reached (done ++ todo) (triangle_of triples (inverse x)))) [
+      elim (cases_Bool (has_node (done ++ todo) (triangle_of triples (inverse x)))) [
         | inl h ↦
             subst (IsGrowing triples r bound done)
-            (sym (cond-true (is_reached (done ++ todo) (triangle_of triples (inverse x))) past new h))
+            (sym (cond-true (has_node (done ++ todo) (triangle_of triples (inverse x))) past new h))
             (turn sides todo (turn_past triples glue r bound n done todo x sides g h))
         | inr h ↦
             subst (IsGrowing triples r bound done)
-            (sym (cond-false (is_reached (done ++ todo) (triangle_of triples (inverse x))) past new h))
+            (sym (cond-false (has_node (done ++ todo) (triangle_of triples (inverse x))) past new h))
             (turn sides (todo ++ (node_beyond triples n x ∷ [])) (turn_new todo x sides g h))
       ]
     where

@@ -18,7 +18,7 @@ use Rattle.free_groupoid.proofs.Telescope.{collapse_injective}
 use Rattle.free_groupoid.proofs.InnerMaps.{inner_along, inner_carries}
 use Rattle.free_groupoid.proofs.OuterEdges.{edge_outer, edge_at_outer}
 use Rattle.free_groupoid.proofs.TestLists.{each_test}
-use Rattle.free_groupoid.proofs.ClosedWords.{loop_collapsed, test_loops}
+use Rattle.free_groupoid.proofs.ClosedWords.{loop_collapsed, each_closed, test_loops}
 use Rattle.free_groupoid.proofs.ComputedPaths.{own_root, root_below, kept_inner}
 
 -- ---- what inner maps keep
@@ -29,15 +29,7 @@ module _ (triples : List (List ℤ)) (l : Laws triples) (f : ℤ → List ℤ) (
       carries-kept l.known f (p t) w m.odd (inner_carries l.known triples f f0 p t w h walk)
 
   pub inner_kept : (p : ℕ → List ℤ) → IsInner triples f f0 p → All (IsKept f) (test_walks triples)
-  inner_kept p h =
-      each_test triples (IsKept f)
-      (λ e k. closed_kept p h (root_of_edge triples e) (loop triples (pos e)) (loop_at e k))
-      (λ i j k n e. closed_kept p h (root_of_edge triples i) (loop triples (pos i) ++ loop triples (pos j))
-      (l.walks.join (root_of_edge triples i) (root_of_edge triples i) (root_of_edge triples i) (loop triples (pos i)) (loop triples (pos j)) (loop_at i k)
-      (subst (λ (a : ℕ). IsWalk triples a (loop triples (pos j)) a) e (loop_at j n))))
-    where
-      loop_at : (e : ℕ) → Contains (outer_edges triples) e → IsWalk triples (root_of_edge triples e) (loop triples (pos e)) (root_of_edge triples e)
-      loop_at e k = loop_closed triples l (pos e) (root_of_edge triples e) (edge_outer triples e k).label refl
+  inner_kept p h = each_closed triples l (IsKept f) (closed_kept p h)
 
 -- ---- one list of reduced walks
 

@@ -6,7 +6,7 @@ use Rattle.std.proofs.lemmas.Bool.{cases_Bool, cond-true, cond-false, cases_eq}
 use Rattle.std.proofs.lemmas.List.{append-nil}
 use Rattle.std.proofs.lemmas.List.Elements.{Contains-append_left, Contains-push, Contains-push_cases}
 use Rattle.ideal_tri.specs.Triangulations.{IsTriangulation}
-use Rattle.free_groupoid.specs.TestWalks.{Node, root_node, is_reached, sides_in_order, sprout, grow, plant, forest}
+use Rattle.free_groupoid.specs.TestWalks.{Node, root_node, has_node, sides_in_order, sprout, grow, plant, forest}
 use Rattle.free_groupoid.proofs.Known.{Glued}
 use Rattle.free_groupoid.proofs.Sides.{side_of_triangle}
 use Rattle.free_groupoid.proofs.SidesInOrder.{side_in_order, in_order_side}
@@ -23,7 +23,7 @@ use Rattle.free_groupoid.proofs.Growing.{turn}
 pub record IsGrown (triples : List (List ℤ)) (k : ℕ) (nodes : List Node) : Type 0 where
   pub forest : IsForest triples nodes
   pub closed : (n : Node) → Contains nodes n → IsClosed triples nodes n
-  pub below : (t : ℕ) → t < k → is_reached nodes t ≡ true
+  pub below : (t : ℕ) → t < k → has_node nodes t ≡ true
 
 module _ (triples : List (List ℤ)) (glue : Glued triples) where
   -- no node waits any more
@@ -31,13 +31,13 @@ module _ (triples : List (List ℤ)) (glue : Glued triples) where
   all_done r bound done g = record {
     forest = subst (IsForest triples) (append-nil done) g.forest;
     closed = λ n k. subst (λ (ms : List Node). IsClosed triples ms n) (append-nil done) (g.closed n k);
-    below = λ i k. ap (λ (ms : List Node). is_reached ms i) (sym (append-nil done)) ∙ go i k;
+    below = λ i k. ap (λ (ms : List Node). has_node ms i) (sym (append-nil done)) ∙ go i k;
   }
     where
-      go : (i : ℕ) → i < suc r → is_reached (done ++ []) i ≡ true
+      go : (i : ℕ) → i < suc r → has_node (done ++ []) i ≡ true
       go i k =
           elim (cases_eq i r) [
-            | inl e ↦ ap (is_reached (done ++ [])) e ∙ g.root
+            | inl e ↦ ap (has_node (done ++ [])) e ∙ g.root
             | inr ne ↦ g.below i (omega arith)
           ]
 
@@ -52,8 +52,8 @@ module _ (triples : List (List ℤ)) (glue : Glued triples) where
     tried = λ x label at. inl (side_in_order triples n.triangle x label at);
     left = λ x k. in_order_side triples n.triangle x k;
     waiting = λ m k. g.waiting m (member_later n todo m k);
-    below = λ i k. ap (λ (ms : List Node). is_reached ms i) (sym regroup) ∙ g.below i k;
-    root = ap (λ (ms : List Node). is_reached ms r) (sym regroup) ∙ g.root;
+    below = λ i k. ap (λ (ms : List Node). has_node ms i) (sym regroup) ∙ g.below i k;
+    root = ap (λ (ms : List Node). has_node ms r) (sym regroup) ∙ g.root;
     few = omega (arith, g.few, ap (missing (length triples)) regroup);
   }
     where
@@ -76,7 +76,7 @@ module _ (triples : List (List ℤ)) (glue : Glued triples) where
   -- ---- all trees
 
   -- a root that has to wait
-  rooted : (r : ℕ) (nodes : List Node) → r < length triples → is_reached nodes r ≡ false → IsGrown triples r nodes
+  rooted : (r : ℕ) (nodes : List Node) → r < length triples → has_node nodes r ≡ false → IsGrown triples r nodes
       → IsGrowing triples r (length triples) nodes (root_node r ∷ [])
   rooted r nodes below new g = record {
     forest = planted_forest triples glue nodes g.forest r below new (side_of_triangle triples glue r below);
@@ -95,12 +95,12 @@ module _ (triples : List (List ℤ)) (glue : Glued triples) where
       → IsGrown triples (length triples) (plant triples (range_with_len k m) nodes)
   planted zero k nodes e g = subst (λ (i : ℕ). IsGrown triples i nodes) (omega arith) g
   planted (suc m) k nodes e g =
-      elim (cases_Bool (is_reached nodes k)) [
+      elim (cases_Bool (has_node nodes k)) [
         | inl h ↦
-            subst (IsGrown triples (length triples)) (sym (cond-true (is_reached nodes k) (rest nodes) (rest tree) h))
+            subst (IsGrown triples (length triples)) (sym (cond-true (has_node nodes k) (rest nodes) (rest tree) h))
             (planted m (k + 1) nodes (omega arith) (record { forest = g.forest; closed = g.closed; below = λ i b. up_to h i b }))
         | inr h ↦
-            subst (IsGrown triples (length triples)) (sym (cond-false (is_reached nodes k) (rest nodes) (rest tree) h))
+            subst (IsGrown triples (length triples)) (sym (cond-false (has_node nodes k) (rest nodes) (rest tree) h))
             (planted m (k + 1) tree (omega arith)
             (subst (λ (i : ℕ). IsGrown triples i tree) (sym (add-one k))
             (grown k (length triples) nodes (root_node k ∷ []) (rooted k nodes (omega arith) h g))))
@@ -112,10 +112,10 @@ module _ (triples : List (List ℤ)) (glue : Glued triples) where
       rest : List Node → List Node
       rest ms = plant triples (range_with_len (k + 1) m) ms
 
-      up_to : is_reached nodes k ≡ true → (i : ℕ) → i < k + 1 → is_reached nodes i ≡ true
+      up_to : has_node nodes k ≡ true → (i : ℕ) → i < k + 1 → has_node nodes i ≡ true
       up_to h i b =
           elim (cases_eq i k) [
-            | inl e' ↦ ap (is_reached nodes) e' ∙ h
+            | inl e' ↦ ap (has_node nodes) e' ∙ h
             | inr ne ↦ g.below i (omega arith)
           ]
 

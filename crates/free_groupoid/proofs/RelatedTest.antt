@@ -16,7 +16,7 @@ use Rattle.free_groupoid.proofs.Loops.{loop_closed}
 use Rattle.free_groupoid.proofs.Relations.{related_along}
 use Rattle.free_groupoid.proofs.OuterEdges.{edge_outer}
 use Rattle.free_groupoid.proofs.TestLists.{each_test}
-use Rattle.free_groupoid.proofs.ClosedWords.{test_loops}
+use Rattle.free_groupoid.proofs.ClosedWords.{each_closed, test_loops}
 use Rattle.free_groupoid.proofs.ComputedPaths.{kept_inner}
 use Rattle.free_groupoid.proofs.InnerTest.{same_walks}
 use Rattle.free_groupoid.proofs.Returns.{AreInverse, walk_returns, around_map, related_around, around_related}
@@ -31,15 +31,7 @@ module _ (source target : List (List ℤ)) (l : Laws source) (to_glue : Glued ta
       (sym (related_along l.known source target f g f0 g0 p h t t w walk))
 
   pub related_alike : (p : ℕ → List ℤ) → IsRelated source target f f0 g g0 p → All (AreAlikeAt f g) (test_walks source)
-  related_alike p h =
-      each_test source (AreAlikeAt f g)
-      (λ e k. closed_alike p h (root_of_edge source e) (loop source (pos e)) (loop_at e k))
-      (λ i j k n e. closed_alike p h (root_of_edge source i) (loop source (pos i) ++ loop source (pos j))
-      (l.walks.join (root_of_edge source i) (root_of_edge source i) (root_of_edge source i) (loop source (pos i)) (loop source (pos j)) (loop_at i k)
-      (subst (λ (a : ℕ). IsWalk source a (loop source (pos j)) a) e (loop_at j n))))
-    where
-      loop_at : (e : ℕ) → Contains (outer_edges source) e → IsWalk source (root_of_edge source e) (loop source (pos e)) (root_of_edge source e)
-      loop_at e k = loop_closed source l (pos e) (root_of_edge source e) (edge_outer source e k).label refl
+  related_alike p h = each_closed source l (AreAlikeAt f g) (closed_alike p h)
 
   -- ---- maps that are alike are related
 

@@ -5,7 +5,7 @@ use Rattle.std.proofs.lemmas.Bool.{ne_eqb}
 use Rattle.std.proofs.lemmas.List.Elements.{Contains-append_left, Contains-push}
 use Rattle.ideal_tri.specs.Labels.{inverse, edge_of}
 use Rattle.ideal_tri.specs.Triangulations.{IsLabel, triangle_of, next}
-use Rattle.free_groupoid.specs.TestWalks.{Node, node_beyond, is_reached}
+use Rattle.free_groupoid.specs.TestWalks.{Node, node_beyond, has_node}
 use Rattle.free_groupoid.proofs.Known.{Glued}
 use Rattle.free_groupoid.proofs.Nodes.{not_reached, still_uncrossed, ends_across-push}
 use Rattle.free_groupoid.proofs.Forests.{IsFree, AreFree, IsForest, uncrossed, free_reached}
@@ -15,7 +15,7 @@ pub record IsOpen (triples : List (List ℤ)) (nodes : List Node) (n : Node) (x 
   pub there : Contains nodes n
   pub label : IsLabel triples x
   pub at : triangle_of triples x ≡ n.triangle
-  pub new : is_reached nodes (triangle_of triples (inverse x)) ≡ false
+  pub new : has_node nodes (triangle_of triples (inverse x)) ≡ false
 
 abbrev pub sprouted : List (List ℤ) → List Node → Node → ℤ → List Node
 sprouted triples nodes n x = nodes ++ (node_beyond triples n x ∷ [])
@@ -63,7 +63,7 @@ module _ (triples : List (List ℤ)) (glue : Glued triples) (nodes : List Node) 
     root = refl;
     free =
         still_uncrossed nodes (node_beyond triples n x) (edge_of fresh)
-        (uncrossed triples glue nodes fresh f (ap (is_reached nodes) fresh_at ∙ open_side.new))
+        (uncrossed triples glue nodes fresh f (ap (has_node nodes) fresh_at ∙ open_side.new))
         (ends_across-push (edge_of fresh) n.walk x ∙ ne_eqb (edge_of x) (edge_of fresh) other_edge);
   }
     where

@@ -8,7 +8,7 @@ use Rattle.std.specs.List.{Contains}
 use Rattle.std.proofs.lemmas.List.Elements.{Contains-append_left, Contains-append_cases}
 use Rattle.ideal_tri.specs.Labels.{inverse}
 use Rattle.ideal_tri.specs.Triangulations.{IsLabel, triangle_of}
-use Rattle.free_groupoid.specs.TestWalks.{Node, is_reached}
+use Rattle.free_groupoid.specs.TestWalks.{Node, has_node}
 use Rattle.free_groupoid.proofs.Known.{Glued}
 use Rattle.free_groupoid.proofs.Members.{member_here, member_later, member_cases}
 use Rattle.free_groupoid.proofs.Nodes.{reaching_node, missing}
@@ -30,8 +30,8 @@ pub record IsGrowing (triples : List (List ℤ)) (r bound : ℕ) (done todo : Li
   pub forest : IsForest triples (done ++ todo)
   pub closed : (n : Node) → Contains done n → IsClosed triples (done ++ todo) n
   pub waiting : (n : Node) → Contains todo n → n.root ≡ r
-  pub below : (t : ℕ) → t < r → is_reached (done ++ todo) t ≡ true
-  pub root : is_reached (done ++ todo) r ≡ true
+  pub below : (t : ℕ) → t < r → has_node (done ++ todo) t ≡ true
+  pub root : has_node (done ++ todo) r ≡ true
   pub few : missing (length triples) (done ++ todo) + length todo ≤ bound
 
 -- the node n has its turn, and of its sides these are still to be tried
@@ -43,8 +43,8 @@ pub record IsTurning (triples : List (List ℤ)) (r bound : ℕ) (n : Node) (don
   pub tried : (x : ℤ) → IsLabel triples x → triangle_of triples x ≡ n.triangle → Contains sides x ⊎ IsBeyond triples (done ++ todo) n x
   pub left : (x : ℤ) → Contains sides x → IsLabel triples x × (triangle_of triples x ≡ n.triangle)
   pub waiting : (m : Node) → Contains todo m → m.root ≡ r
-  pub below : (t : ℕ) → t < r → is_reached (done ++ todo) t ≡ true
-  pub root : is_reached (done ++ todo) r ≡ true
+  pub below : (t : ℕ) → t < r → has_node (done ++ todo) t ≡ true
+  pub root : has_node (done ++ todo) r ≡ true
   pub few : missing (length triples) (done ++ todo) + length todo ≤ bound
 
 -- what is beyond stays there where nodes are added
@@ -60,7 +60,7 @@ module _ (triples : List (List ℤ)) (glue : Glued triples) (r bound : ℕ) (n :
   -- ---- a side whose other triangle is reached
 
   reached_beyond : (todo : List Node) (x : ℤ) (sides : List ℤ) → IsTurning triples r bound n done todo (x ∷ sides)
-      → is_reached (done ++ todo) (triangle_of triples (inverse x)) ≡ true → IsBeyond triples (done ++ todo) n x
+      → has_node (done ++ todo) (triangle_of triples (inverse x)) ≡ true → IsBeyond triples (done ++ todo) n x
   reached_beyond todo x sides g h =
       let (m, there, at) = reaching_node (done ++ todo) (triangle_of triples (inverse x)) h in
       record { node = m; there = there; at = at; root = same_root m at (Contains-append_cases done todo m there) }
@@ -85,7 +85,7 @@ module _ (triples : List (List ℤ)) (glue : Glued triples) (r bound : ℕ) (n :
           ]
 
   pub turn_past : (todo : List Node) (x : ℤ) (sides : List ℤ) → IsTurning triples r bound n done todo (x ∷ sides)
-      → is_reached (done ++ todo) (triangle_of triples (inverse x)) ≡ true → IsTurning triples r bound n done todo sides
+      → has_node (done ++ todo) (triangle_of triples (inverse x)) ≡ true → IsTurning triples r bound n done todo sides
   turn_past todo x sides g h = record {
     forest = g.forest;
     here = g.here;

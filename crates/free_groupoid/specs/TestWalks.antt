@@ -26,8 +26,8 @@ node_beyond triples n x = record {
 }
 
 -- a node stands at the triangle
-abbrev pub is_reached : List Node → ℕ → Bool
-is_reached nodes t = list_any (λ n. nat_eq n.triangle t) nodes
+abbrev pub has_node : List Node → ℕ → Bool
+has_node nodes t = list_any (λ n. nat_eq n.triangle t) nodes
 
 -- the labels in the order 0, ~0, 1, ~1, .. of their edges
 abbrev pub label_order : List (List ℤ) → List ℤ
@@ -43,7 +43,7 @@ sides_in_order triples t = filter (λ x. nat_eq (triangle_of triples x) t) (labe
 abbrev pub sprout : List (List ℤ) → Node → List ℤ → List Node → List Node → List Node
 sprout triples n [] done todo = todo
 sprout triples n (x ∷ sides) done todo =
-    if is_reached (done ++ todo) (triangle_of triples (inverse x))
+    if has_node (done ++ todo) (triangle_of triples (inverse x))
     then sprout triples n sides done todo
     else sprout triples n sides done (todo ++ (node_beyond triples n x ∷ []))
 
@@ -59,7 +59,7 @@ grow triples (suc bound) done (n ∷ todo) =
 abbrev pub plant : List (List ℤ) → List ℕ → List Node → List Node
 plant triples [] nodes = nodes
 plant triples (t ∷ ts) nodes =
-    if is_reached nodes t
+    if has_node nodes t
     then plant triples ts nodes
     else plant triples ts (grow triples (length triples) nodes (root_node t ∷ []))
 
