@@ -2,6 +2,7 @@
 use Rattle.std.proofs.Common.{ℕ, ℤ, pos, List, [], ◌∷◌, ◌≡◌, ◌≢◌, ◌<◌, inl, inr, refl, sym, ◌∙◌, subst, arith, length, ◌+◌, ◌/◌}
 use Rattle.std.specs.List.{All, Contains, flat_map}
 use Rattle.std.proofs.lemmas.List.Elements.{All-drop}
+use Rattle.ideal_tri.specs.Triangulations.{IsWalk}
 use Rattle.tri_atlas.specs.Maps.{IsMap}
 use Rattle.free_groupoid.specs.TestWalks.{root_of, tree_walk, loop, outer_edges, edges_at, test_walks}
 use Rattle.free_groupoid.specs.Inner.{IsInner, IsKept}
@@ -21,13 +22,18 @@ use Rattle.free_groupoid.proofs.RootWalks.{outer_back, root_stays, spread_carrie
 
 -- ---- roots
 
+-- a walk to a triangle starts at a triangle
+starts_below : (triples : List (List ℤ)) → Laws triples → (s t : ℕ) (w : List ℤ) → IsWalk triples s w t → t < length triples → s < length triples
+starts_below triples l s t [] h below = subst (λ (i : ℕ). i < length triples) (sym h) below
+starts_below triples l s t (x ∷ w) h below = subst (λ (i : ℕ). i < length triples) h.1 (l.triangles.triangle x h.0)
+
 module _ (triples : List (List ℤ)) (l : Laws triples) (t : ℕ) (below : t < length triples) where
   -- a root is its own root
   pub own_root : root_of triples (root_of triples t) ≡ root_of triples t
   own_root = sym (walk_component triples l (root_of triples t) t (tree_walk triples t) (l.forest.walk t below))
 
   pub root_below : root_of triples t < length triples
-  root_below = omega (arith, l.forest.least t below)
+  root_below = starts_below triples l (root_of triples t) t (tree_walk triples t) (l.forest.walk t below) below
 
 module _ (triples : List (List ℤ)) (l : Laws triples) (f : ℤ → List ℤ) (f0 : ℕ → ℕ) (m : IsMap triples triples f f0)
     (kept : All (IsKept f) (test_walks triples)) where

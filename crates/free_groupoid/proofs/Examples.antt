@@ -57,3 +57,37 @@ pair_walks : test_walks pair
     ∷ []
 unfolding test_walks outer_edges is_tree_edge tree_walk root_of forest cyclic_reduce strip
 pair_walks = refl
+
+-- ---- inner maps of the torus
+
+-- the identity is inner by empty walks
+identity_path : inner_path torus identity (λ t. t) 1 ≡ []
+unfolding root_of tree_walk outer_edges is_tree_edge forest
+identity_path = refl
+
+-- conjugation by a closed walk at triangle 0
+abbrev around : List ℤ
+around = pos 1 ∷ negsuc 2 ∷ []
+
+abbrev conjugation : ℤ → List ℤ
+conjugation x = walk_at (triangle_of torus (inverse x)) (front (triangle_of torus x) (x ∷ []))
+  where
+    front : ℕ → List ℤ → List ℤ
+    front zero w = inverse_word around ++ w
+    front (suc t) w = w
+
+    walk_at : ℕ → List ℤ → List ℤ
+    walk_at zero w = reduce (w ++ around)
+    walk_at (suc t) w = reduce w
+
+conjugation_path : inner_path torus conjugation (λ t. t) 0 ≡ around
+unfolding root_of tree_walk outer_edges is_tree_edge forest
+conjugation_path = refl
+
+-- the twist 0 to 2, 1 to 1, 2 to 2 -1 2 moves the first test walk
+abbrev twist : ℤ → List ℤ
+twist x = named ((pos 2 ∷ []) ∷ (pos 1 ∷ []) ∷ (pos 2 ∷ negsuc 0 ∷ pos 2 ∷ []) ∷ []) x
+
+twist_moves : is_rotation (cyclic_reduce (flat_map twist (pos 1 ∷ negsuc 0 ∷ []))) (pos 1 ∷ negsuc 0 ∷ []) ≡ false
+unfolding cyclic_reduce strip
+twist_moves = refl

@@ -1,10 +1,13 @@
 -- The laws of the spanning forest.
-use Rattle.std.proofs.Common.{ℕ, ℤ, pos, negsuc, List, ◌≡◌, ◌≢◌, inl, inr, refl, sym, ◌∙◌, ap, arith, length, nat_eq, not}
+use Rattle.std.proofs.Common.{ℕ, ℤ, pos, negsuc, List, [], ◌∷◌, ◌≡◌, ◌≢◌, ◌<◌, ◌≤◌, inl, inr, refl, sym, ◌∙◌, ap, arith, length, nat_eq, not}
 use Rattle.std.specs.List.{Contains, range_with_len}
 use Rattle.std.proofs.lemmas.Bool.{cases_eq, eq-eqb, not_from_false}
 use Rattle.ideal_tri.specs.Labels.{inverse, edge_of}
 use Rattle.ideal_tri.specs.WordLaws.{ReductionLaws}
-use Rattle.ideal_tri.specs.Triangulations.{IsTriangulation, IsLabel, edge_count, triangle_of}
+use Rattle.ideal_tri.specs.Words.{inverse_word}
+use Rattle.ideal_tri.specs.Components.{least_triangle}
+use Rattle.ideal_tri.specs.ComponentLaws.{ConnectionLaws}
+use Rattle.ideal_tri.specs.Triangulations.{IsLabel, IsWalk, edge_count, triangle_of}
 use Rattle.free_groupoid.specs.TestWalks.{Node, node_at, forest, root_of, tree_walk, is_tree_edge, outer_edges, root_of_edge, edges_at}
 use Rattle.free_groupoid.specs.ForestLaws.{ForestLaws}
 use Rattle.free_groupoid.proofs.Known.{Glued}
@@ -62,11 +65,36 @@ module _ (triples : List (List ℤ)) (glue : Glued triples) where
                 ]
           ]
 
-  pub forest_laws : ForestLaws triples
+  -- ---- the least triangle
+
+  root_along : (s t : ℕ) (w : List ℤ) → IsWalk triples s w t → root_of triples t ≡ root_of triples s
+  root_along s t [] h = ap (root_of triples) (sym h)
+  root_along s t (x ∷ w) h = root_along (triangle_of triples (inverse x)) t w h.2 ∙ component x h.0 ∙ ap (root_of triples) h.1
+
+  root_least : ConnectionLaws triples → (i : ℕ) → i < length triples → root_of triples i ≡ least_triangle triples i
+  unfolding root_of
+  root_least c i below =
+      let itself : least_triangle triples i ≤ i = c.least i i below (record { letters = []; walk = refl }) in
+      let first : least_triangle triples i < length triples = omega arith in
+      let there = c.there i below in
+      let up : least_triangle triples i ≤ root_of triples i =
+      c.least (root_of triples i) i below
+      (record {
+        letters = inverse_word (node_at (forest triples) i).walk;
+        walk =
+            glue.walks.back (root_of triples i) i (node_at (forest triples) i).walk
+            (node_walk triples glue (forest triples) grown i below);
+      }) in
+      let down : root_of triples (least_triangle triples i) ≤ least_triangle triples i =
+      node_least triples glue (forest triples) grown (least_triangle triples i) first in
+      let same : root_of triples (least_triangle triples i) ≡ root_of triples i = root_along i (least_triangle triples i) there.letters there.walk in
+      omega (arith, up, down, same)
+
+  pub forest_laws : ConnectionLaws triples → ForestLaws triples
   unfolding root_of tree_walk is_tree_edge
-  forest_laws = record {
+  forest_laws c = record {
     walk = λ i below. node_walk triples glue (forest triples) grown i below;
-    least = λ i below. node_least triples glue (forest triples) grown i below;
+    least = root_least c;
     component = component;
     letters = λ i below.
         node_letters triples glue (forest triples) grown (length (node_at (forest triples) i).walk) (node_at (forest triples) i) (omega arith)

@@ -1,8 +1,9 @@
 -- What holds of the spanning forest.
-use Rattle.std.specs.Prelude.{◌≡◌, ◌≢◌, ◌<◌, ◌≤◌, ◌++◌, ℕ, ℤ, true, List, [], ◌∷◌, length, All, Contains}
+use Rattle.std.specs.Prelude.{◌≡◌, ◌≢◌, ◌<◌, ◌++◌, ℕ, ℤ, true, List, [], ◌∷◌, length, All, Contains}
 use Rattle.ideal_tri.specs.Labels.{inverse, edge_of}
 use Rattle.ideal_tri.specs.Words.{reduce}
 use Rattle.ideal_tri.specs.Triangulations.{IsLabel, IsWalk, triangle_of}
+use Rattle.ideal_tri.specs.Components.{least_triangle}
 use Rattle.free_groupoid.specs.TestWalks.{root_of, tree_walk, is_tree_edge, outer_edges, edges_at}
 
 -- each triangle is reached from the least triangle of its component, across tree edges alone; and
@@ -10,7 +11,7 @@ use Rattle.free_groupoid.specs.TestWalks.{root_of, tree_walk, is_tree_edge, oute
 pub record ForestLaws (triples : List (List ℤ)) : Type 0 where
   pub walk : (t : ℕ) → t < length triples
       → IsWalk triples (root_of triples t) (tree_walk triples t) t
-  pub least : (t : ℕ) → t < length triples → root_of triples t ≤ t
+  pub least : (t : ℕ) → t < length triples → root_of triples t ≡ least_triangle triples t
   pub component : (x : ℤ) → IsLabel triples x
       → root_of triples (triangle_of triples (inverse x))
       ≡ root_of triples (triangle_of triples x)

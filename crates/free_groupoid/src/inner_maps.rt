@@ -6,7 +6,7 @@ ghost use Rattle.free_groupoid.specs.ForestLaws.{ForestLaws};
 ghost use Rattle.free_groupoid.specs.InnerLaws.{InnerLaws, InnerMapLaws};
 ghost use Rattle.free_groupoid.specs.RelatedLaws.{RelatedLaws, RelationLaws};
 
-use ideal_tri::{label_laws, surface_laws, word_laws};
+use ideal_tri::{component_laws, label_laws, surface_laws, word_laws};
 use tri_atlas::map_laws;
 
 /// What is proved of the spanning forest of a triangulation.
@@ -16,6 +16,7 @@ pub fn forest_laws()
     label_laws();
     word_laws();
     surface_laws();
+    component_laws();
     map_laws();
 }
 
