@@ -1,7 +1,15 @@
--- Worked examples: the test walks of the once-punctured torus, the four-punctured sphere, and two spheres at once.
-use Rattle.std.specs.Prelude.{◌≡◌, ℤ, pos, negsuc, List, [], ◌∷◌, refl}
-use Rattle.ideal_tri.specs.Words.{cyclic_reduce, strip}
+-- Worked examples: test walks of the once-punctured torus, of the four-punctured sphere, and of two spheres at once; inner
+-- maps of the torus and their walks, and a twist that is not inner.
+use Rattle.std.specs.Prelude.{◌≡◌, ℕ, zero, suc, ℤ, pos, negsuc, false, List, [], ◌∷◌, ◌++◌, refl}
+use Rattle.std.specs.List.{flat_map}
+use Rattle.ideal_tri.specs.Labels.{inverse}
+use Rattle.ideal_tri.specs.Words.{inverse_word, reduce, cyclic_reduce, strip}
+use Rattle.ideal_tri.specs.Curves.{is_rotation}
+use Rattle.ideal_tri.specs.Triangulations.{triangle_of}
+use Rattle.tri_atlas.specs.Maps.{identity}
 use Rattle.free_groupoid.specs.TestWalks.{forest, root_of, tree_walk, is_tree_edge, outer_edges, test_walks}
+use Rattle.free_groupoid.specs.inside.InnerPaths.{inner_path}
+use Rattle.free_groupoid.proofs.Names.{named}
 
 abbrev torus : List (List ℤ)
 torus = (pos 0 ∷ pos 1 ∷ pos 2 ∷ []) ∷ (negsuc 0 ∷ negsuc 1 ∷ negsuc 2 ∷ []) ∷ []
@@ -69,16 +77,13 @@ identity_path = refl
 abbrev around : List ℤ
 around = pos 1 ∷ negsuc 2 ∷ []
 
-abbrev conjugation : ℤ → List ℤ
-conjugation x = walk_at (triangle_of torus (inverse x)) (front (triangle_of torus x) (x ∷ []))
-  where
-    front : ℕ → List ℤ → List ℤ
-    front zero w = inverse_word around ++ w
-    front (suc t) w = w
+-- the walk at each triangle
+abbrev walk_of : ℕ → List ℤ
+walk_of zero = around
+walk_of (suc t) = []
 
-    walk_at : ℕ → List ℤ → List ℤ
-    walk_at zero w = reduce (w ++ around)
-    walk_at (suc t) w = reduce w
+abbrev conjugation : ℤ → List ℤ
+conjugation x = reduce (inverse_word (walk_of (triangle_of torus x)) ++ (x ∷ walk_of (triangle_of torus (inverse x))))
 
 conjugation_path : inner_path torus conjugation (λ t. t) 0 ≡ around
 unfolding root_of tree_walk outer_edges is_tree_edge forest
