@@ -1,5 +1,6 @@
 -- A forest stays one with a node beyond a side, where the triangle there is new, and with a new root.
-use Rattle.std.proofs.Common.{ℕ, ℤ, false, List, [], ◌∷◌, ◌++◌, ◌≡◌, ◌<◌, ◌≤◌, ◌⊎◌, inl, inr, refl, sym, ◌∙◌, ap, subst, arith, length}
+use Rattle.std.proofs.Common.{ℕ, ℤ, false, List, [], ◌∷◌, ◌++◌, ◌≡◌, ◌<◌, ◌≤◌, ◌⊎◌, inl, inr, refl, sym, ◌∙◌, ap, subst}
+use Rattle.std.proofs.Common.{arith, length}
 use Rattle.std.specs.List.{Contains}
 use Rattle.std.proofs.lemmas.List.Elements.{Contains-append_left, Contains-push, Contains-push_cases}
 use Rattle.ideal_tri.specs.Labels.{inverse, edge_of}
@@ -22,16 +23,21 @@ each_node P nodes new old here m h =
     ]
 
 -- no two nodes at one triangle, where the triangle of one more is new
-still_one : (nodes : List Node) (new : Node) → ((m n : Node) → Contains nodes m → Contains nodes n → m.triangle ≡ n.triangle → m ≡ n)
+still_one : (nodes : List Node) (new : Node)
+    → ((m n : Node) → Contains nodes m → Contains nodes n → m.triangle ≡ n.triangle → m ≡ n)
     → has_node nodes new.triangle ≡ false
-    → (m n : Node) → Contains (nodes ++ (new ∷ [])) m → Contains (nodes ++ (new ∷ [])) n → m.triangle ≡ n.triangle → m ≡ n
+    → (m n : Node) → Contains (nodes ++ (new ∷ [])) m → Contains (nodes ++ (new ∷ [])) n → m.triangle ≡ n.triangle
+    → m ≡ n
 still_one nodes new one none m n h k =
     each_node (λ m. (n : Node) → Contains (nodes ++ (new ∷ [])) n → m.triangle ≡ n.triangle → m ≡ n) nodes new
-    (λ m h. each_node (λ n. m.triangle ≡ n.triangle → m ≡ n) nodes new (λ n k. one m n h k) (λ e. absurd (not_reached nodes m new.triangle none h e)))
-    (each_node (λ n. new.triangle ≡ n.triangle → new ≡ n) nodes new (λ n k e. absurd (not_reached nodes n new.triangle none k (sym e))) (λ e. refl))
+    (λ m h. each_node (λ n. m.triangle ≡ n.triangle → m ≡ n) nodes new (λ n k. one m n h k)
+    (λ e. absurd (not_reached nodes m new.triangle none h e)))
+    (each_node (λ n. new.triangle ≡ n.triangle → new ≡ n) nodes new
+    (λ n k e. absurd (not_reached nodes n new.triangle none k (sym e))) (λ e. refl))
     m h n k
 
-still_comes : (triples : List (List ℤ)) (nodes : List Node) (new n : Node) → (n ≡ root_node n.triangle) ⊎ StandsBeyond triples nodes n
+still_comes : (triples : List (List ℤ)) (nodes : List Node) (new n : Node)
+    → (n ≡ root_node n.triangle) ⊎ StandsBeyond triples nodes n
     → (n ≡ root_node n.triangle) ⊎ StandsBeyond triples (nodes ++ (new ∷ [])) n
 still_comes triples nodes new n (inl root) = inl root
 still_comes triples nodes new n (inr b) =
@@ -50,10 +56,13 @@ module _ (triples : List (List ℤ)) (glue : Glued triples) (nodes : List Node) 
   pub sprouted_forest : (n : Node) (x : ℤ) → IsOpen triples nodes n x → n.root ≤ triangle_of triples (inverse x)
       → IsForest triples (sprouted triples nodes n x)
   sprouted_forest n x o below = record {
-    inside = each_node (λ m. m.triangle < length triples) nodes new f.inside (glue.triangles.triangle (inverse x) (glue.known.labels.label triples x o.label));
+    inside =
+        each_node (λ m. m.triangle < length triples) nodes new f.inside
+        (glue.triangles.triangle (inverse x) (glue.known.labels.label triples x o.label));
     walk =
         each_node (λ m. IsWalk triples m.root m.walk m.triangle) nodes new f.walk
-        (glue.walks.join n.root n.triangle (triangle_of triples (inverse x)) n.walk (x ∷ []) (f.walk n o.there) (o.label, o.at, refl));
+        (glue.walks.join n.root n.triangle (triangle_of triples (inverse x)) n.walk (x ∷ []) (f.walk n o.there)
+        (o.label, o.at, refl));
     least = each_node (λ m. m.root ≤ m.triangle) nodes new f.least below;
     one = still_one nodes new f.one o.new;
     comes =
@@ -112,7 +121,9 @@ module _ (triples : List (List ℤ)) (glue : Glued triples) (nodes : List Node) 
       there = Contains-push nodes (root_node r);
       at = sym at;
       root = refl;
-      free = still_uncrossed nodes (root_node r) (edge_of a) (uncrossed triples glue nodes a f (ap (has_node nodes) at ∙ new)) refl;
+      free =
+          still_uncrossed nodes (root_node r) (edge_of a)
+          (uncrossed triples glue nodes a f (ap (has_node nodes) at ∙ new)) refl;
     }
 
     -- the three sides of the root
@@ -127,7 +138,8 @@ module _ (triples : List (List ℤ)) (glue : Glued triples) (nodes : List Node) 
           c = previous triples s.side;
           free_a = side_free s.side s.label s.at;
           free_b = side_free (next triples s.side) second at_second;
-          free_c = side_free (previous triples s.side) third (glue.triangles.stays (next triples s.side) second ∙ at_second);
+          free_c =
+              side_free (previous triples s.side) third (glue.triangles.stays (next triples s.side) second ∙ at_second);
           a_b = λ e. (glue.triangles.moves s.side s.label).0 (sym e);
           a_c = λ e. (glue.triangles.moves s.side s.label).1 (sym e);
           b_c = λ e. (glue.triangles.moves (next triples s.side) second).0 (sym e);

@@ -1,7 +1,9 @@
 -- The forest collapsed: which letters stay, and what is left of walks along the trees.
-use Rattle.std.proofs.Common.{ℕ, ℤ, Bool, true, false, List, [], ◌∷◌, ◌++◌, ◌≡◌, ◌&&◌, inl, inr, refl, sym, ◌∙◌, ap, subst, nat_eq, nat_lt, not, cond}
+use Rattle.std.proofs.Common.{ℕ, ℤ, Bool, true, false, List, [], ◌∷◌, ◌++◌, ◌≡◌, ◌&&◌, inl, inr, refl, sym, ◌∙◌, ap}
+use Rattle.std.proofs.Common.{subst, nat_eq, nat_lt, not, cond}
 use Rattle.std.specs.List.{All, flat_map}
-use Rattle.std.proofs.lemmas.Bool.{cases_Bool, cond-true, cond-false, and_parts, and_from, and_left, and_right, eqb-true, eq-eqb, ltb-true, lt-ltb, not-true, not_from_true, not_from_false}
+use Rattle.std.proofs.lemmas.Bool.{cases_Bool, cond-true, cond-false, and_parts, and_from, and_left, and_right}
+use Rattle.std.proofs.lemmas.Bool.{eqb-true, eq-eqb, ltb-true, lt-ltb, not-true, not_from_true, not_from_false}
 use Rattle.std.proofs.lemmas.List.Elements.{All-nil, All-cons, All-head, All-tail, All-append}
 use Rattle.ideal_tri.specs.Labels.{inverse, edge_of}
 use Rattle.ideal_tri.specs.Words.{inverse_word}
@@ -23,7 +25,8 @@ pub record IsOuter (triples : List (List ℤ)) (r : ℕ) (x : ℤ) : Type 0 wher
 
 pub collapse-odd : Known → (triples : List (List ℤ)) (r : ℕ) → IsOdd (collapse triples r)
 collapse-odd known triples r x =
-    ap (λ (e : ℕ). cond (is_outer_at triples r e) (inverse x ∷ []) []) (known.labels.edge x) ∙ go (is_outer_at triples r (edge_of x))
+    ap (λ (e : ℕ). cond (is_outer_at triples r e) (inverse x ∷ []) []) (known.labels.edge x) ∙ go
+    (is_outer_at triples r (edge_of x))
   where
     go : (b : Bool) → cond b (inverse x ∷ []) [] ≡ inverse_word (cond b (x ∷ []) [])
     go true = refl
@@ -32,7 +35,8 @@ collapse-odd known triples r x =
 module _ (triples : List (List ℤ)) (f : ForestLaws triples) (r : ℕ) where
   outer_test : (x : ℤ) → IsOuter triples r x → is_outer_at triples r (edge_of x) ≡ true
   outer_test x h =
-      and_from (nat_lt (edge_of x) (edge_count triples)) (not (is_tree_edge triples (edge_of x)) && nat_eq (root_of_edge triples (edge_of x)) r)
+      and_from (nat_lt (edge_of x) (edge_count triples))
+      (not (is_tree_edge triples (edge_of x)) && nat_eq (root_of_edge triples (edge_of x)) r)
       (lt-ltb (edge_of x) (edge_count triples) h.label)
       (and_from (not (is_tree_edge triples (edge_of x))) (nat_eq (root_of_edge triples (edge_of x)) r)
       (not_from_false (is_tree_edge triples (edge_of x)) h.outside)
@@ -40,8 +44,11 @@ module _ (triples : List (List ℤ)) (f : ForestLaws triples) (r : ℕ) where
 
   test_outer : (x : ℤ) → is_outer_at triples r (edge_of x) ≡ true → IsOuter triples r x
   test_outer x h =
-      let parts = and_parts (nat_lt (edge_of x) (edge_count triples)) (not (is_tree_edge triples (edge_of x)) && nat_eq (root_of_edge triples (edge_of x)) r) h in
-      let more = and_parts (not (is_tree_edge triples (edge_of x))) (nat_eq (root_of_edge triples (edge_of x)) r) parts.1 in
+      let parts =
+      and_parts (nat_lt (edge_of x) (edge_count triples))
+      (not (is_tree_edge triples (edge_of x)) && nat_eq (root_of_edge triples (edge_of x)) r) h in
+      let more =
+      and_parts (not (is_tree_edge triples (edge_of x))) (nat_eq (root_of_edge triples (edge_of x)) r) parts.1 in
       let label : IsLabel triples x = ltb-true (edge_of x) (edge_count triples) parts.0 in
       record {
         label = label;
@@ -55,7 +62,8 @@ module _ (triples : List (List ℤ)) (f : ForestLaws triples) (r : ℕ) where
   pub collapse-tree : (x : ℤ) → is_tree_edge triples (edge_of x) ≡ true → collapse triples r x ≡ []
   collapse-tree x h =
       cond-false (is_outer_at triples r (edge_of x)) (x ∷ []) []
-      (and_right (nat_lt (edge_of x) (edge_count triples)) (not (is_tree_edge triples (edge_of x)) && nat_eq (root_of_edge triples (edge_of x)) r)
+      (and_right (nat_lt (edge_of x) (edge_count triples))
+      (not (is_tree_edge triples (edge_of x)) && nat_eq (root_of_edge triples (edge_of x)) r)
       (and_left (not (is_tree_edge triples (edge_of x))) (nat_eq (root_of_edge triples (edge_of x)) r)
       (not_from_true (is_tree_edge triples (edge_of x)) h)))
 
@@ -66,7 +74,9 @@ module _ (triples : List (List ℤ)) (f : ForestLaws triples) (r : ℕ) where
         | inl h ↦
             subst (All (IsOuter triples r)) (sym (cond-true (is_outer_at triples r (edge_of x)) (x ∷ []) [] h))
             (All-cons (IsOuter triples r) x [] (test_outer x h) (All-nil (IsOuter triples r)))
-        | inr h ↦ subst (All (IsOuter triples r)) (sym (cond-false (is_outer_at triples r (edge_of x)) (x ∷ []) [] h)) (All-nil (IsOuter triples r))
+        | inr h ↦
+            subst (All (IsOuter triples r)) (sym (cond-false (is_outer_at triples r (edge_of x)) (x ∷ []) [] h))
+            (All-nil (IsOuter triples r))
       ]
 
   -- ---- words
@@ -74,7 +84,8 @@ module _ (triples : List (List ℤ)) (f : ForestLaws triples) (r : ℕ) where
   pub collapsed-outer : (w : List ℤ) → All (IsOuter triples r) (flat_map (collapse triples r) w)
   collapsed-outer [] = All-nil (IsOuter triples r)
   collapsed-outer (x ∷ w) =
-      All-append (IsOuter triples r) (collapse triples r x) (flat_map (collapse triples r) w) (collapse-keeps x) (collapsed-outer w)
+      All-append (IsOuter triples r) (collapse triples r x) (flat_map (collapse triples r) w) (collapse-keeps x)
+      (collapsed-outer w)
 
   -- outer letters stay
   pub collapse-fixed : (w : List ℤ) → All (IsOuter triples r) w → flat_map (collapse triples r) w ≡ w
@@ -84,8 +95,10 @@ module _ (triples : List (List ℤ)) (f : ForestLaws triples) (r : ℕ) where
       ∙ ap (λ (z : List ℤ). x ∷ z) (collapse-fixed w (All-tail (IsOuter triples r) x w h))
 
   -- letters of the trees fall away
-  pub collapse-trees : (w : List ℤ) → All (λ x. is_tree_edge triples (edge_of x) ≡ true) w → flat_map (collapse triples r) w ≡ []
+  pub collapse-trees : (w : List ℤ) → All (λ x. is_tree_edge triples (edge_of x) ≡ true) w
+      → flat_map (collapse triples r) w ≡ []
   collapse-trees [] h = refl
   collapse-trees (x ∷ w) h =
-      ap (λ (z : List ℤ). z ++ flat_map (collapse triples r) w) (collapse-tree x (All-head (λ y. is_tree_edge triples (edge_of y) ≡ true) x w h))
+      ap (λ (z : List ℤ). z ++ flat_map (collapse triples r) w)
+      (collapse-tree x (All-head (λ y. is_tree_edge triples (edge_of y) ≡ true) x w h))
       ∙ collapse-trees w (All-tail (λ y. is_tree_edge triples (edge_of y) ≡ true) x w h)

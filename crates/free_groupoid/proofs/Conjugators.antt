@@ -1,5 +1,6 @@
 -- Where all test walks are kept, one word carries the letters of all outer edges of a component to their images.
-use Rattle.std.proofs.Common.{ℕ, ℤ, pos, List, [], ◌∷◌, ◌++◌, ◌≡◌, ◌≢◌, ◌⊎◌, inl, inr, refl, sym, ◌∙◌, ap, subst, append_assoc}
+use Rattle.std.proofs.Common.{ℕ, ℤ, pos, List, [], ◌∷◌, ◌++◌, ◌≡◌, ◌≢◌, ◌⊎◌, inl, inr, refl, sym, ◌∙◌, ap, subst}
+use Rattle.std.proofs.Common.{append_assoc}
 use Rattle.std.specs.List.{All, Contains, flat_map}
 use Rattle.std.proofs.lemmas.Bool.{cases_eq}
 use Rattle.std.proofs.lemmas.List.Concat.{flat_map-append}
@@ -23,7 +24,8 @@ use Rattle.free_groupoid.proofs.ClosedWords.{loop_collapsed, product_collapsed}
 swapped : Known → (x y : ℤ) (q first second : List ℤ) → Carries q (y ∷ (x ∷ [])) (second ++ first)
     → Carries (x ∷ (q ++ inverse_word first)) (x ∷ (y ∷ [])) (first ++ second)
 swapped known x y q first second h =
-    by_fact known ((x ∷ []) ∷ (y ∷ []) ∷ q ∷ first ∷ second ∷ []) (+0 ∷ +1 ∷ +0 ∷ +2 ∷ -3 ∷ []) (+0 ∷ +2 ∷ -3 ∷ +3 ∷ +4 ∷ [])
+    by_fact known ((x ∷ []) ∷ (y ∷ []) ∷ q ∷ first ∷ second ∷ []) (+0 ∷ +1 ∷ +0 ∷ +2 ∷ -3 ∷ [])
+    (+0 ∷ +2 ∷ -3 ∷ +3 ∷ +4 ∷ [])
     (+0 ∷ []) (+1 ∷ +0 ∷ +2 ∷ []) (+2 ∷ +4 ∷ +3 ∷ []) (-3 ∷ []) refl h refl
     ∙ ap (λ (z : List ℤ). reduce (x ∷ z)) (sym (append_assoc q (inverse_word first) (first ++ second)))
 
@@ -42,17 +44,22 @@ module _ (triples : List (List ℤ)) (l : Laws triples) (f : ℤ → List ℤ) (
   collapsed_carries : (w : List ℤ) → IsKept f (cyclic_reduce w)
       → (q : List ℤ) × Carries q (flat_map (collapse triples r) w) (flat_map (collapse triples r) (flat_map f w))
   collapsed_carries w h =
-      let (q, carries) = kept-carries l.known f w m.odd h in
-      (flat_map (collapse triples r) q, carries_image l.known (collapse triples r) q w (flat_map f w) (collapse-odd l.known triples r) carries)
+      let (q, carries) = kept-carries l.known f w m.odd h in (
+        flat_map (collapse triples r) q,
+        carries_image l.known (collapse triples r) q w (flat_map f w)
+            (collapse-odd l.known triples r) carries,
+      )
 
   pub letter_carried : (e : ℕ) → IsEdge e → (q : List ℤ) × Carries q (pos e ∷ []) (image e)
   letter_carried e h =
       let (q, carries) = collapsed_carries (loop triples (pos e))
-      (All-contains (IsKept f) (test_walks triples) (loop_walk triples e) kept (loop_tested triples e (edge_at_edge triples r e h))) in
+      (All-contains (IsKept f) (test_walks triples) (loop_walk triples e) kept
+      (loop_tested triples e (edge_at_edge triples r e h))) in
       let collapsed : List ℤ = flat_map (collapse triples r) (flat_map f (loop triples (pos e))) in (
         q,
         carries_same l.known q (flat_map (collapse triples r) (loop triples (pos e))) collapsed (pos e ∷ []) (image e)
-            (ap reduce (loop_collapsed triples l r e (edge_at_outer triples r e h))) (sym (l.known.words.reduction.twice collapsed)) carries,
+            (ap reduce (loop_collapsed triples l r e (edge_at_outer triples r e h)))
+            (sym (l.known.words.reduction.twice collapsed)) carries,
       )
 
   product_carried : (i j : ℕ) → IsEdge i → IsEdge j → IsKept f (product_walk triples i j)
@@ -66,17 +73,22 @@ module _ (triples : List (List ℤ)) (l : Laws triples) (f : ℤ → List ℤ) (
       ∙ flat_map-append (collapse triples r) (flat_map f (loop triples (pos i))) (flat_map f (loop triples (pos j))) in
       let (q, carries) = collapsed_carries w passes in (
         q,
-        carries_same l.known q (flat_map (collapse triples r) w) (flat_map (collapse triples r) (flat_map f w)) (pos i ∷ (pos j ∷ []))
-            (image i ++ image j) (ap reduce (product_collapsed triples l r i j (edge_at_outer triples r i h) (edge_at_outer triples r j k)))
+        carries_same l.known q (flat_map (collapse triples r) w) (flat_map (collapse triples r) (flat_map f w))
+            (pos i ∷ (pos j ∷ []))
+            (image i ++ image j) (ap reduce
+            (product_collapsed triples l r i j (edge_at_outer triples r i h) (edge_at_outer triples r j k)))
             (ap reduce parts ∙ l.known.words.reduction.append one other) carries,
       )
 
-  pub pair_carried : (i j : ℕ) → i ≢ j → IsEdge i → IsEdge j → (q : List ℤ) × Carries q (pos i ∷ (pos j ∷ [])) (image i ++ image j)
+  pub pair_carried : (i j : ℕ) → i ≢ j → IsEdge i → IsEdge j
+      → (q : List ℤ) × Carries q (pos i ∷ (pos j ∷ [])) (image i ++ image j)
   pair_carried i j ne h k =
       elim (product_tested triples i j ne same (edge_at_edge triples r i h) (edge_at_edge triples r j k)) [
-        | inl there ↦ product_carried i j h k (All-contains (IsKept f) (test_walks triples) (product_walk triples i j) kept there)
+        | inl there ↦
+            product_carried i j h k (All-contains (IsKept f) (test_walks triples) (product_walk triples i j) kept there)
         | inr there ↦
-            (let (q, carries) = product_carried j i k h (All-contains (IsKept f) (test_walks triples) (product_walk triples j i) kept there) in
+            (let (q, carries) = product_carried j i k h
+            (All-contains (IsKept f) (test_walks triples) (product_walk triples j i) kept there) in
             (pos i ∷ (q ++ inverse_word (image i)), swapped l.known (pos i) (pos j) q (image i) (image j) carries))
       ]
     where
@@ -85,7 +97,8 @@ module _ (triples : List (List ℤ)) (l : Laws triples) (f : ℤ → List ℤ) (
 
   -- ---- one word for all letters
 
-  pub shared_serves : (i j : ℕ) (a b : List ℤ) → i ≢ j → IsEdge i → IsEdge j → Carries a (pos i ∷ []) (image i) → Carries b (pos j ∷ []) (image j)
+  pub shared_serves : (i j : ℕ) (a b : List ℤ) → i ≢ j → IsEdge i → IsEdge j → Carries a (pos i ∷ []) (image i)
+      → Carries b (pos j ∷ []) (image j)
       → (e : ℕ) → IsEdge e → Carries (shared (pos i) a b) (pos e ∷ []) (image e)
   shared_serves i j a b ne h k one other e n = go (cases_eq e i) (cases_eq e j)
     where
@@ -106,4 +119,5 @@ module _ (triples : List (List ℤ)) (l : Laws triples) (f : ℤ → List ℤ) (
           let (q, product) = pair_carried i e (λ x. not_i (sym x)) h n in
           let (p, last) = pair_carried j e (λ x. not_j (sym x)) k n in
           shared_carries_third l.known (pos i) (pos j) (pos e) a b d (image i) (image j) (image e) pair
-          (record { apart = λ x. not_i (sym x); one = one; other = third; both = q; product = product }) p (λ x. not_j (sym x)) last
+          (record { apart = λ x. not_i (sym x); one = one; other = third; both = q; product = product }) p
+          (λ x. not_j (sym x)) last

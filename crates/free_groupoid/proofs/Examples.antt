@@ -1,4 +1,5 @@
--- Worked examples: test walks of the once-punctured torus, of the four-punctured sphere, and of two spheres at once; inner
+-- Worked examples: test walks of the once-punctured torus, of the four-punctured sphere, and of two spheres at once;
+-- inner
 -- maps of the torus and their walks, and a twist that is not inner.
 use Rattle.std.specs.Prelude.{◌≡◌, ℕ, zero, suc, ℤ, pos, negsuc, false, List, [], ◌∷◌, ◌++◌, refl}
 use Rattle.std.specs.List.{flat_map}
@@ -18,7 +19,8 @@ torus_edges : outer_edges torus ≡ 1 ∷ 2 ∷ []
 unfolding outer_edges is_tree_edge forest
 torus_edges = refl
 
-torus_walks : test_walks torus ≡ (pos 1 ∷ negsuc 0 ∷ []) ∷ (pos 2 ∷ negsuc 0 ∷ []) ∷ (pos 1 ∷ negsuc 0 ∷ pos 2 ∷ negsuc 0 ∷ []) ∷ []
+torus_walks : test_walks torus ≡ (pos 1 ∷ negsuc 0 ∷ []) ∷ (pos 2 ∷ negsuc 0 ∷ []) ∷
+    (pos 1 ∷ negsuc 0 ∷ pos 2 ∷ negsuc 0 ∷ []) ∷ []
 unfolding test_walks outer_edges is_tree_edge tree_walk root_of forest cyclic_reduce strip
 torus_walks = refl
 

@@ -1,5 +1,6 @@
 -- The laws of the spanning forest.
-use Rattle.std.proofs.Common.{ℕ, ℤ, pos, negsuc, List, [], ◌∷◌, ◌≡◌, ◌≢◌, ◌<◌, ◌≤◌, inl, inr, refl, sym, ◌∙◌, ap, arith, length, nat_eq, not}
+use Rattle.std.proofs.Common.{ℕ, ℤ, pos, negsuc, List, [], ◌∷◌, ◌≡◌, ◌≢◌, ◌<◌, ◌≤◌, inl, inr, refl, sym, ◌∙◌, ap, arith}
+use Rattle.std.proofs.Common.{length, nat_eq, not}
 use Rattle.std.specs.List.{Contains, range_with_len}
 use Rattle.std.proofs.lemmas.Bool.{cases_eq, eq-eqb, not_from_false}
 use Rattle.ideal_tri.specs.Labels.{inverse, edge_of}
@@ -8,17 +9,20 @@ use Rattle.ideal_tri.specs.Words.{inverse_word}
 use Rattle.ideal_tri.specs.Components.{least_triangle}
 use Rattle.ideal_tri.specs.ComponentLaws.{ConnectionLaws}
 use Rattle.ideal_tri.specs.Triangulations.{IsLabel, IsWalk, edge_count, triangle_of}
-use Rattle.free_groupoid.specs.TestWalks.{Node, node_at, forest, root_of, tree_walk, is_tree_edge, outer_edges, root_of_edge, edges_at}
+use Rattle.free_groupoid.specs.TestWalks.{Node, node_at, forest, root_of, tree_walk, is_tree_edge, outer_edges}
+use Rattle.free_groupoid.specs.TestWalks.{root_of_edge, edges_at}
 use Rattle.free_groupoid.specs.ForestLaws.{ForestLaws}
 use Rattle.free_groupoid.proofs.Known.{Glued}
 use Rattle.free_groupoid.proofs.Members.{member_filter, member_range}
 use Rattle.free_groupoid.proofs.Forests.{IsFree, AreFree}
-use Rattle.free_groupoid.proofs.ForestNodes.{only_node, node_is_at, node_walk, node_least, node_component, node_letters, node_across}
+use Rattle.free_groupoid.proofs.ForestNodes.{only_node, node_is_at, node_walk, node_least, node_component, node_letters}
+use Rattle.free_groupoid.proofs.ForestNodes.{node_across}
 use Rattle.free_groupoid.proofs.Planting.{IsGrown, forest_grown}
 
 -- both labels of an edge lie in one component
 pub edge_component : (triples : List (List ℤ))
-    → ((x : ℤ) → IsLabel triples x → root_of triples (triangle_of triples (inverse x)) ≡ root_of triples (triangle_of triples x))
+    → ((x : ℤ) → IsLabel triples x → root_of triples (triangle_of triples (inverse x)) ≡ root_of triples
+    (triangle_of triples x))
     → (x : ℤ) → IsLabel triples x → root_of_edge triples (edge_of x) ≡ root_of triples (triangle_of triples x)
 edge_component triples component (pos n) label = refl
 edge_component triples component (negsuc n) label = sym (component (pos n) label)
@@ -27,12 +31,14 @@ module _ (triples : List (List ℤ)) (glue : Glued triples) where
   grown : IsGrown triples (length triples) (forest triples)
   grown = forest_grown triples glue
 
-  component : (x : ℤ) → IsLabel triples x → root_of triples (triangle_of triples (inverse x)) ≡ root_of triples (triangle_of triples x)
+  component : (x : ℤ) → IsLabel triples x
+      → root_of triples (triangle_of triples (inverse x)) ≡ root_of triples (triangle_of triples x)
   unfolding root_of
   component x label = node_component triples glue (forest triples) grown x label
 
   -- the edge of a free label
-  free_outer : (r : ℕ) (x : ℤ) → IsFree triples (forest triples) r x → Contains (edges_at triples r (outer_edges triples)) (edge_of x)
+  free_outer : (r : ℕ) (x : ℤ) → IsFree triples (forest triples) r x
+      → Contains (edges_at triples r (outer_edges triples)) (edge_of x)
   unfolding outer_edges is_tree_edge root_of
   free_outer r x h =
       member_filter (λ e. nat_eq (root_of_edge triples e) r) (outer_edges triples) (edge_of x)
@@ -41,12 +47,14 @@ module _ (triples : List (List ℤ)) (glue : Glued triples) where
       (not_from_false (is_tree_edge triples (edge_of x)) h.free))
       (eq-eqb (root_of_edge triples (edge_of x)) r
       (edge_component triples component x h.label
-      ∙ ap (λ (m : Node). m.root) (only_node triples glue (forest triples) grown h.node (triangle_of triples x) h.there h.at)
+      ∙ ap (λ (m : Node). m.root)
+      (only_node triples glue (forest triples) grown h.node (triangle_of triples x) h.there h.at)
       ∙ h.root))
 
   -- of three labels two are of different edges
   two_free : (r : ℕ) → AreFree triples (forest triples) r
-      → (i : ℕ) × (j : ℕ) × (i ≢ j) × Contains (edges_at triples r (outer_edges triples)) i × Contains (edges_at triples r (outer_edges triples)) j
+      → (i : ℕ) × (j : ℕ) × (i ≢ j) × Contains (edges_at triples r (outer_edges triples)) i × Contains
+      (edges_at triples r (outer_edges triples)) j
   two_free r h =
       elim (cases_eq (edge_of h.a) (edge_of h.b)) [
         | inr ne ↦ (edge_of h.a, edge_of h.b, ne, free_outer r h.a h.free_a, free_outer r h.b h.free_b)
@@ -69,7 +77,8 @@ module _ (triples : List (List ℤ)) (glue : Glued triples) where
 
   root_along : (s t : ℕ) (w : List ℤ) → IsWalk triples s w t → root_of triples t ≡ root_of triples s
   root_along s t [] h = ap (root_of triples) (sym h)
-  root_along s t (x ∷ w) h = root_along (triangle_of triples (inverse x)) t w h.2 ∙ component x h.0 ∙ ap (root_of triples) h.1
+  root_along s t (x ∷ w) h =
+      root_along (triangle_of triples (inverse x)) t w h.2 ∙ component x h.0 ∙ ap (root_of triples) h.1
 
   root_least : ConnectionLaws triples → (i : ℕ) → i < length triples → root_of triples i ≡ least_triangle triples i
   unfolding root_of
@@ -87,7 +96,8 @@ module _ (triples : List (List ℤ)) (glue : Glued triples) where
       }) in
       let down : root_of triples (least_triangle triples i) ≤ least_triangle triples i =
       node_least triples glue (forest triples) grown (least_triangle triples i) first in
-      let same : root_of triples (least_triangle triples i) ≡ root_of triples i = root_along i (least_triangle triples i) there.letters there.walk in
+      let same : root_of triples (least_triangle triples i) ≡ root_of triples i =
+      root_along i (least_triangle triples i) there.letters there.walk in
       omega (arith, up, down, same)
 
   pub forest_laws : ConnectionLaws triples → ForestLaws triples
@@ -97,10 +107,12 @@ module _ (triples : List (List ℤ)) (glue : Glued triples) where
     least = root_least c;
     component = component;
     letters = λ i below.
-        node_letters triples glue (forest triples) grown (length (node_at (forest triples) i).walk) (node_at (forest triples) i) (omega arith)
+        node_letters triples glue (forest triples) grown (length (node_at (forest triples) i).walk)
+        (node_at (forest triples) i) (omega arith)
         (node_is_at triples glue (forest triples) grown i below).there;
     across = λ x label h. node_across triples glue (forest triples) grown x h;
     outside = λ i below.
         two_free (node_at (forest triples) i).root
-        (grown.forest.three (node_at (forest triples) i) (node_is_at triples glue (forest triples) grown i below).there);
+        (grown.forest.three (node_at (forest triples) i)
+        (node_is_at triples glue (forest triples) grown i below).there);
   }

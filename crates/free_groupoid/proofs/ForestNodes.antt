@@ -1,5 +1,6 @@
 -- The node at a triangle, its walk, and steps across the edges that the forest crosses.
-use Rattle.std.proofs.Common.{ℕ, ℤ, zero, suc, Bool, true, List, [], ◌∷◌, ◌++◌, ◌≡◌, ◌<◌, ◌≤◌, ◌||◌, ◌⊎◌, inl, inr, refl, sym, ◌∙◌, ap, subst, append_assoc, arith, length, length-append, nat_eq}
+use Rattle.std.proofs.Common.{ℕ, ℤ, zero, suc, Bool, true, List, [], ◌∷◌, ◌++◌, ◌≡◌, ◌<◌, ◌≤◌, ◌||◌, ◌⊎◌, inl, inr}
+use Rattle.std.proofs.Common.{refl, sym, ◌∙◌, ap, subst, append_assoc, arith, length, length-append, nat_eq}
 use Rattle.std.specs.List.{All, Contains}
 use Rattle.std.proofs.lemmas.Bool.{cases_Bool, cond-true, cond-false, eqb-true, eq-eqb, false≢true}
 use Rattle.std.proofs.lemmas.List.{append-nil}
@@ -30,12 +31,14 @@ found (n ∷ nodes) t h =
           subst (IsNodeAt (n ∷ nodes) t) (sym (cond-true (nat_eq n.triangle t) n (node_at nodes t) here))
           (record { there = member_here n nodes; at = eqb-true n.triangle t here })
       | inr later ↦
-          (let rest : IsNodeAt nodes t (node_at nodes t) = found nodes t (ap (λ (b : Bool). b || has_node nodes t) (sym later) ∙ h) in
+          (let rest : IsNodeAt nodes t (node_at nodes t) = found nodes t
+          (ap (λ (b : Bool). b || has_node nodes t) (sym later) ∙ h) in
           subst (IsNodeAt (n ∷ nodes) t) (sym (cond-false (nat_eq n.triangle t) n (node_at nodes t) later))
           (record { there = member_later n nodes (node_at nodes t) rest.there; at = rest.at }))
     ]
 
-module _ (triples : List (List ℤ)) (glue : Glued triples) (nodes : List Node) (g : IsGrown triples (length triples) nodes) where
+module _ (triples : List (List ℤ)) (glue : Glued triples) (nodes : List Node)
+    (g : IsGrown triples (length triples) nodes) where
   pub node_is_at : (i : ℕ) → i < length triples → IsNodeAt nodes i (node_at nodes i)
   node_is_at i below = found nodes i (g.below i below)
 
@@ -49,16 +52,19 @@ module _ (triples : List (List ℤ)) (glue : Glued triples) (nodes : List Node) 
   pub node_walk : (i : ℕ) → i < length triples → IsWalk triples (node_at nodes i).root (node_at nodes i).walk i
   node_walk i below =
       let n : IsNodeAt nodes i (node_at nodes i) = node_is_at i below in
-      subst (λ (k : ℕ). IsWalk triples (node_at nodes i).root (node_at nodes i).walk k) n.at (g.forest.walk (node_at nodes i) n.there)
+      subst (λ (k : ℕ). IsWalk triples (node_at nodes i).root (node_at nodes i).walk k) n.at
+      (g.forest.walk (node_at nodes i) n.there)
 
   pub node_least : (i : ℕ) → i < length triples → (node_at nodes i).root ≤ i
   node_least i below =
       let n : IsNodeAt nodes i (node_at nodes i) = node_is_at i below in
       omega (arith, g.forest.least (node_at nodes i) n.there, n.at)
 
-  pub node_component : (x : ℤ) → IsLabel triples x → (node_at nodes (triangle_of triples (inverse x))).root ≡ (node_at nodes (triangle_of triples x)).root
+  pub node_component : (x : ℤ) → IsLabel triples x
+      → (node_at nodes (triangle_of triples (inverse x))).root ≡ (node_at nodes (triangle_of triples x)).root
   node_component x label =
-      let n : IsNodeAt nodes (triangle_of triples x) (node_at nodes (triangle_of triples x)) = node_is_at (triangle_of triples x) (glue.triangles.triangle x label) in
+      let n : IsNodeAt nodes (triangle_of triples x) (node_at nodes (triangle_of triples x)) =
+      node_is_at (triangle_of triples x) (glue.triangles.triangle x label) in
       let b : IsBeyond triples nodes (node_at nodes (triangle_of triples x)) x =
       (g.closed (node_at nodes (triangle_of triples x)) n.there).beyond x label (sym n.at) in
       ap (λ (m : Node). m.root) (only_node b.node (triangle_of triples (inverse x)) b.there b.at) ∙ b.root
@@ -66,20 +72,25 @@ module _ (triples : List (List ℤ)) (glue : Glued triples) (nodes : List Node) 
   -- ---- tree edges
 
   -- a node's letters, by their number
-  pub node_letters : (k : ℕ) (n : Node) → length n.walk ≤ k → Contains nodes n → All (λ x. is_crossed nodes (edge_of x) ≡ true) n.walk
+  pub node_letters : (k : ℕ) (n : Node) → length n.walk ≤ k → Contains nodes n
+      → All (λ x. is_crossed nodes (edge_of x) ≡ true) n.walk
   node_letters k n short there = go k n short there (g.forest.comes n there)
     where
-      go : (k : ℕ) (n : Node) → length n.walk ≤ k → Contains nodes n → (n ≡ root_node n.triangle) ⊎ StandsBeyond triples nodes n
+      go : (k : ℕ) (n : Node) → length n.walk ≤ k → Contains nodes n
+          → (n ≡ root_node n.triangle) ⊎ StandsBeyond triples nodes n
           → All (λ x. is_crossed nodes (edge_of x) ≡ true) n.walk
       go k n short there (inl root) =
-          subst (λ (w : List ℤ). All (λ x. is_crossed nodes (edge_of x) ≡ true) w) (ap (λ (m : Node). m.walk) (sym root))
+          subst (λ (w : List ℤ). All (λ x. is_crossed nodes (edge_of x) ≡ true) w)
+          (ap (λ (m : Node). m.walk) (sym root))
           (All-nil (λ x. is_crossed nodes (edge_of x) ≡ true))
       go zero n short there (inr b) =
           absurd (omega (arith, short, ap (λ (m : Node). length m.walk) b.is, length-append b.from.walk (b.side ∷ [])))
       go (suc k) n short there (inr b) =
-          subst (λ (w : List ℤ). All (λ x. is_crossed nodes (edge_of x) ≡ true) w) (ap (λ (m : Node). m.walk) (sym b.is))
+          subst (λ (w : List ℤ). All (λ x. is_crossed nodes (edge_of x) ≡ true) w)
+          (ap (λ (m : Node). m.walk) (sym b.is))
           (All-push (λ x. is_crossed nodes (edge_of x) ≡ true) b.from.walk b.side
-          (go k b.from (omega (arith, short, ap (λ (m : Node). length m.walk) b.is, length-append b.from.walk (b.side ∷ []))) b.there
+          (go k b.from (omega
+          (arith, short, ap (λ (m : Node). length m.walk) b.is, length-append b.from.walk (b.side ∷ []))) b.there
           (g.forest.comes b.from b.there))
           (crossed_by nodes n (edge_of b.side) there
           (ap (λ (m : Node). ends_across (edge_of b.side) m.walk) b.is
@@ -87,8 +98,10 @@ module _ (triples : List (List ℤ)) (glue : Glued triples) (nodes : List Node) 
           ∙ eq-eqb (edge_of b.side) (edge_of b.side) refl)))
 
   -- across the side of a node's last step
-  step_across : (n : Node) → Contains nodes n → (b : StandsBeyond triples nodes n) → (x : ℤ) → (x ≡ b.side) ⊎ (x ≡ inverse b.side)
-      → reduce ((node_at nodes (triangle_of triples x)).walk ++ (x ∷ [])) ≡ reduce (node_at nodes (triangle_of triples (inverse x))).walk
+  step_across : (n : Node) → Contains nodes n → (b : StandsBeyond triples nodes n) → (x : ℤ)
+      → (x ≡ b.side) ⊎ (x ≡ inverse b.side)
+      → reduce ((node_at nodes (triangle_of triples x)).walk ++ (x ∷ [])) ≡ reduce
+      (node_at nodes (triangle_of triples (inverse x))).walk
   step_across n there b x (inl e) =
       ap reduce
       (ap (λ (m : Node). m.walk ++ (x ∷ []))
@@ -100,7 +113,8 @@ module _ (triples : List (List ℤ)) (glue : Glued triples) (nodes : List Node) 
       (ap (λ (m : Node). m.triangle) b.is ∙ ap (λ (z : ℤ). triangle_of triples (inverse z)) (sym e)))))
   step_across n there b x (inr e) =
       ap (λ (m : Node). reduce (m.walk ++ (x ∷ [])))
-      (only_node n (triangle_of triples x) there (ap (λ (m : Node). m.triangle) b.is ∙ ap (triangle_of triples) (sym e)))
+      (only_node n (triangle_of triples x) there
+      (ap (λ (m : Node). m.triangle) b.is ∙ ap (triangle_of triples) (sym e)))
       ∙ ap (λ (m : Node). reduce (m.walk ++ (x ∷ []))) b.is
       ∙ ap reduce (append_assoc b.from.walk (b.side ∷ []) (x ∷ []))
       ∙ ap (λ (z : ℤ). reduce (b.from.walk ++ (b.side ∷ (z ∷ [])))) e
@@ -111,17 +125,22 @@ module _ (triples : List (List ℤ)) (glue : Glued triples) (nodes : List Node) 
       (sym b.at ∙ ap (triangle_of triples) (sym (ap inverse e ∙ glue.known.labels.twice b.side)))))
 
   pub node_across : (x : ℤ) → is_crossed nodes (edge_of x) ≡ true
-      → reduce ((node_at nodes (triangle_of triples x)).walk ++ (x ∷ [])) ≡ reduce (node_at nodes (triangle_of triples (inverse x))).walk
+      → reduce ((node_at nodes (triangle_of triples x)).walk ++ (x ∷ [])) ≡ reduce
+      (node_at nodes (triangle_of triples (inverse x))).walk
   node_across x h =
       let (n, there, ends) = crossing_node nodes (edge_of x) h in
       go n there ends (g.forest.comes n there)
     where
-      go : (n : Node) → Contains nodes n → ends_across (edge_of x) n.walk ≡ true → (n ≡ root_node n.triangle) ⊎ StandsBeyond triples nodes n
-          → reduce ((node_at nodes (triangle_of triples x)).walk ++ (x ∷ [])) ≡ reduce (node_at nodes (triangle_of triples (inverse x))).walk
-      go n there ends (inl root) = absurd (false≢true (ap (λ (m : Node). ends_across (edge_of x) m.walk) (sym root) ∙ ends))
+      go : (n : Node) → Contains nodes n → ends_across (edge_of x) n.walk ≡ true
+          → (n ≡ root_node n.triangle) ⊎ StandsBeyond triples nodes n
+          → reduce ((node_at nodes (triangle_of triples x)).walk ++ (x ∷ [])) ≡ reduce
+          (node_at nodes (triangle_of triples (inverse x))).walk
+      go n there ends (inl root) =
+          absurd (false≢true (ap (λ (m : Node). ends_across (edge_of x) m.walk) (sym root) ∙ ends))
       go n there ends (inr b) =
           let same_edge : edge_of x ≡ edge_of b.side =
           sym
           (eqb-true (edge_of b.side) (edge_of x)
-          (sym (ends_across-push (edge_of x) b.from.walk b.side) ∙ ap (λ (m : Node). ends_across (edge_of x) m.walk) (sym b.is) ∙ ends)) in
+          (sym (ends_across-push (edge_of x) b.from.walk b.side) ∙ ap (λ (m : Node). ends_across (edge_of x) m.walk)
+          (sym b.is) ∙ ends)) in
           step_across n there b x (glue.known.labels.of_edge x b.side same_edge)

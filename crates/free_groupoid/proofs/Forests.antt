@@ -1,7 +1,9 @@
 -- Nodes that make a forest: each is a root or stands beyond a side of another, and no two are at one triangle.
 --
--- Beside that, each tree has three labels at its triangles that it doesn't cross. They are the three sides of the root at
--- first. Where a node is added beyond a side x, the tree crosses x and its inverse from then on; x is replaced by the side
+-- Beside that, each tree has three labels at its triangles that it doesn't cross. They are the three sides of the root
+-- at
+-- first. Where a node is added beyond a side x, the tree crosses x and its inverse from then on; x is replaced by the
+-- side
 -- after its inverse, which is new. So at the end two edges at least of each component lie outside the forest: three
 -- labels are of two edges.
 use Rattle.std.proofs.Common.{ℕ, ℤ, true, false, List, ◌≡◌, ◌≢◌, ◌<◌, ◌≤◌, ◌⊎◌, inl, inr, sym, ◌∙◌, ap, length, nat_eq}
@@ -56,14 +58,17 @@ pub record IsForest (triples : List (List ℤ)) (nodes : List Node) : Type 0 whe
 -- ---- crossed edges
 
 -- the last step of a node starts and ends at reached triangles
-last_step : (triples : List (List ℤ)) (glue : Glued triples) (nodes : List Node) (n : Node) (x : ℤ) → Contains nodes n → ends_across (edge_of x) n.walk ≡ true
+last_step : (triples : List (List ℤ)) (glue : Glued triples) (nodes : List Node) (n : Node) (x : ℤ) → Contains nodes n
+    → ends_across (edge_of x) n.walk ≡ true
     → (n ≡ root_node n.triangle) ⊎ StandsBeyond triples nodes n → has_node nodes (triangle_of triples x) ≡ true
-last_step triples glue nodes n x there ends (inl root) = absurd (false≢true (ap (λ (m : Node). ends_across (edge_of x) m.walk) (sym root) ∙ ends))
+last_step triples glue nodes n x there ends (inl root) =
+    absurd (false≢true (ap (λ (m : Node). ends_across (edge_of x) m.walk) (sym root) ∙ ends))
 last_step triples glue nodes n x there ends (inr b) =
     elim (glue.known.labels.of_edge x b.side (sym (eqb-true (edge_of b.side) (edge_of x) across))) [
       | inl e ↦ node_reaches nodes b.from (triangle_of triples x) b.there (sym (ap (triangle_of triples) e ∙ b.at))
       | inr e ↦
-          node_reaches nodes n (triangle_of triples x) there (ap (λ (m : Node). m.triangle) b.is ∙ ap (triangle_of triples) (sym e))
+          node_reaches nodes n (triangle_of triples x) there
+          (ap (λ (m : Node). m.triangle) b.is ∙ ap (triangle_of triples) (sym e))
     ]
   where
     across : nat_eq (edge_of b.side) (edge_of x) ≡ true
@@ -73,12 +78,14 @@ last_step triples glue nodes n x there ends (inr b) =
         ∙ ends
 
 -- no edge of a new triangle is crossed
-pub uncrossed : (triples : List (List ℤ)) (glue : Glued triples) (nodes : List Node) (x : ℤ) → IsForest triples nodes → has_node nodes (triangle_of triples x) ≡ false
+pub uncrossed : (triples : List (List ℤ)) (glue : Glued triples) (nodes : List Node) (x : ℤ) → IsForest triples nodes
+    → has_node nodes (triangle_of triples x) ≡ false
     → is_crossed nodes (edge_of x) ≡ false
 uncrossed triples glue nodes x f new =
     false_from_ne_true (is_crossed nodes (edge_of x))
     (λ h. let (n, there, ends) = crossing_node nodes (edge_of x) h in
-    both_ways (has_node nodes (triangle_of triples x)) new (last_step triples glue nodes n x there ends (f.comes n there)))
+    both_ways (has_node nodes (triangle_of triples x)) new
+    (last_step triples glue nodes n x there ends (f.comes n there)))
 
 -- the triangle of a free label is reached
 pub free_reached : (triples : List (List ℤ)) (nodes : List Node) (r : ℕ) (x y : ℤ) → IsFree triples nodes r x

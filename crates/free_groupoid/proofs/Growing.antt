@@ -2,7 +2,8 @@
 --
 -- Each turn takes one node from those that wait and adds one for each triangle that is new, so the number of triangles
 -- that are missing and of nodes that wait falls by one. It is at most the number of triangles, which is the bound.
-use Rattle.std.proofs.Common.{ℕ, ℤ, true, false, List, [], ◌∷◌, ◌++◌, ◌≡◌, ◌≤◌, ◌⊎◌, inl, inr, refl, sym, ◌∙◌, ap, subst, append_assoc, arith, length, length-append}
+use Rattle.std.proofs.Common.{ℕ, ℤ, true, false, List, [], ◌∷◌, ◌++◌, ◌≡◌, ◌≤◌, ◌⊎◌, inl, inr, refl, sym, ◌∙◌, ap}
+use Rattle.std.proofs.Common.{subst, append_assoc, arith, length, length-append}
 use Rattle.std.specs.List.{Contains}
 use Rattle.std.proofs.lemmas.Bool.{cases_Bool, cond-true, cond-false, cases_lt, both_ways}
 use Rattle.std.proofs.lemmas.List.Elements.{Contains-append_left, Contains-push, Contains-push_cases}
@@ -39,7 +40,8 @@ module _ (triples : List (List ℤ)) (glue : Glued triples) (r bound : ℕ) (n :
           g.few,
           ap (missing (length triples)) regroup,
           length-append todo (new ∷ []),
-          missing-new (length triples) (done ++ todo) new (glue.triangles.triangle (inverse x) (glue.known.labels.label triples x side.0)) h,
+          missing-new (length triples) (done ++ todo) new
+              (glue.triangles.triangle (inverse x) (glue.known.labels.label triples x side.0)) h,
         );
   }
     where
@@ -62,7 +64,9 @@ module _ (triples : List (List ℤ)) (glue : Glued triples) (r bound : ℕ) (n :
       least : n.root ≤ triangle_of triples (inverse x)
       least =
           elim (cases_lt (triangle_of triples (inverse x)) r) [
-            | inl lower ↦ absurd (both_ways (has_node (done ++ todo) (triangle_of triples (inverse x))) h (g.below (triangle_of triples (inverse x)) lower))
+            | inl lower ↦
+                absurd (both_ways (has_node (done ++ todo) (triangle_of triples (inverse x))) h
+                (g.below (triangle_of triples (inverse x)) lower))
             | inr above ↦ omega (arith, above, g.mine)
           ]
 
@@ -76,7 +80,8 @@ module _ (triples : List (List ℤ)) (glue : Glued triples) (r bound : ℕ) (n :
       still_closed m (inl e) = inl e
       still_closed m (inr c) = inr (closed_more triples (done ++ todo) more m into c)
 
-      still_tried : (y : ℤ) → Contains (x ∷ sides) y ⊎ IsBeyond triples (done ++ todo) n y → Contains sides y ⊎ IsBeyond triples more n y
+      still_tried : (y : ℤ) → Contains (x ∷ sides) y ⊎ IsBeyond triples (done ++ todo) n y
+          → Contains sides y ⊎ IsBeyond triples more n y
       still_tried y (inr b) = inr (beyond_more triples (done ++ todo) more n y into b)
       still_tried y (inl k) =
           elim (member_cases x sides y k) [
@@ -112,7 +117,8 @@ module _ (triples : List (List ℤ)) (glue : Glued triples) (r bound : ℕ) (n :
 
       go : (m : Node) → (m ≡ n) ⊎ IsClosed triples (done ++ todo) m → IsClosed triples (done ++ todo) m
       go m (inl e) =
-          subst (IsClosed triples (done ++ todo)) (sym e) (record { beyond = λ x label at. beyond x (g.tried x label at) })
+          subst (IsClosed triples (done ++ todo)) (sym e)
+          (record { beyond = λ x label at. beyond x (g.tried x label at) })
       go m (inr c) = c
 
   pub turn : (sides : List ℤ) (todo : List Node) → IsTurning triples r bound n done todo sides

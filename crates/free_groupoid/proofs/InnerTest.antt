@@ -23,8 +23,10 @@ use Rattle.free_groupoid.proofs.ComputedPaths.{own_root, root_below, kept_inner}
 
 -- ---- what inner maps keep
 
-module _ (triples : List (List ℤ)) (l : Laws triples) (f : ℤ → List ℤ) (f0 : ℕ → ℕ) (m : IsMap triples triples f f0) where
-  closed_kept : (p : ℕ → List ℤ) → IsInner triples f f0 p → (t : ℕ) (w : List ℤ) → IsWalk triples t w t → IsKept f (cyclic_reduce w)
+module _ (triples : List (List ℤ)) (l : Laws triples) (f : ℤ → List ℤ) (f0 : ℕ → ℕ)
+    (m : IsMap triples triples f f0) where
+  closed_kept : (p : ℕ → List ℤ) → IsInner triples f f0 p → (t : ℕ) (w : List ℤ) → IsWalk triples t w t
+      → IsKept f (cyclic_reduce w)
   closed_kept p h t w walk =
       carries-kept l.known f (p t) w m.odd (inner_carries l.known triples f f0 p t w h walk)
 
@@ -40,14 +42,17 @@ module _ (triples : List (List ℤ)) (l : Laws triples) (f : ℤ → List ℤ) (
   around r = p r ++ inverse_word (q r)
 
   around_closed : (r : ℕ) → r < length triples → IsWalk triples r (around r) r
-  around_closed r below = l.walks.join r (f0 r) r (p r) (inverse_word (q r)) (h.walks r below) (l.walks.back r (f0 r) (q r) (k.walks r below))
+  around_closed r below =
+      l.walks.join r (f0 r) r (p r) (inverse_word (q r)) (h.walks r below)
+      (l.walks.back r (f0 r) (q r) (k.walks r below))
 
   -- it commutes with each closed walk
   around_commutes : (r : ℕ) (w : List ℤ) → IsWalk triples r w r → Carries (around r) w w
   around_commutes r w walk =
       by_fact l.known names (+2 ∷ +0 ∷ -1 ∷ []) (+0 ∷ +3 ∷ -1 ∷ []) [] (+2 ∷ +0 ∷ []) (+0 ∷ +3 ∷ []) (-1 ∷ []) refl
       (sym (inner_along l.known triples f f0 p r r w h walk)) refl
-      ∙ by_fact l.known names (+0 ∷ +3 ∷ -1 ∷ []) (+0 ∷ -1 ∷ +2 ∷ []) (+0 ∷ -1 ∷ []) (+1 ∷ +3 ∷ []) (+2 ∷ +1 ∷ []) (-1 ∷ []) refl
+      ∙ by_fact l.known names (+0 ∷ +3 ∷ -1 ∷ []) (+0 ∷ -1 ∷ +2 ∷ []) (+0 ∷ -1 ∷ []) (+1 ∷ +3 ∷ []) (+2 ∷ +1 ∷ [])
+      (-1 ∷ []) refl
       (inner_along l.known triples f f0 q r r w k walk) refl
       ∙ ap reduce (sym (append_assoc (p r) (inverse_word (q r)) w))
     where
@@ -55,10 +60,12 @@ module _ (triples : List (List ℤ)) (l : Laws triples) (f : ℤ → List ℤ) (
       names = p r ∷ q r ∷ w ∷ flat_map f w ∷ []
 
   -- collapsed, it commutes with the letters of outer edges
-  around_letter : (r e : ℕ) → IsOuter triples r (pos e) → Carries (flat_map (collapse triples r) (around r)) (pos e ∷ []) (pos e ∷ [])
+  around_letter : (r e : ℕ) → IsOuter triples r (pos e)
+      → Carries (flat_map (collapse triples r) (around r)) (pos e ∷ []) (pos e ∷ [])
   around_letter r e out =
       subst (λ (z : List ℤ). Carries (flat_map (collapse triples r) (around r)) z z) (loop_collapsed triples l r e out)
-      (carries_image l.known (collapse triples r) (around r) (loop triples (pos e)) (loop triples (pos e)) (collapse-odd l.known triples r)
+      (carries_image l.known (collapse triples r) (around r) (loop triples (pos e)) (loop triples (pos e))
+      (collapse-odd l.known triples r)
       (around_commutes r (loop triples (pos e)) (loop_closed triples l (pos e) r out.label out.root)))
 
   same_at_root : (t : ℕ) → t < length triples → reduce (p (root_of triples t)) ≡ reduce (q (root_of triples t))
@@ -69,22 +76,27 @@ module _ (triples : List (List ℤ)) (l : Laws triples) (f : ℤ → List ℤ) (
       centraliser l.known (pos i) (pos j) (flat_map (collapse triples r) (around r)) ne
       (around_letter r i (edge_at_outer triples r i a)) (around_letter r j (edge_at_outer triples r j b)) in
       let closed : reduce (around r) ≡ reduce [] =
-      collapse_injective triples l r r r (around r) [] (own_root triples l t below) (around_closed r (root_below triples l t below)) refl nothing in
+      collapse_injective triples l r r r (around r) [] (own_root triples l t below)
+      (around_closed r (root_below triples l t below)) refl nothing in
       by_fact l.known (p r ∷ q r ∷ []) (+0 ∷ []) (+1 ∷ []) [] (+0 ∷ -1 ∷ []) [] (+1 ∷ []) refl closed refl
 
   -- a walk of an inner map is that of the root between the tree and its image
   from_root : (o : ℕ → List ℤ) → IsInner triples f f0 o → (t : ℕ) → t < length triples
-      → reduce (o t) ≡ reduce (inverse_word (tree_walk triples t) ++ (o (root_of triples t) ++ flat_map f (tree_walk triples t)))
+      → reduce (o t) ≡ reduce (inverse_word (tree_walk triples t) ++
+      (o (root_of triples t) ++ flat_map f (tree_walk triples t)))
   from_root o n t below =
       by_fact l.known
-      (tree_walk triples t ∷ o (root_of triples t) ∷ flat_map f (tree_walk triples t) ∷ o t ∷ []) (+3 ∷ []) (-0 ∷ +1 ∷ +2 ∷ [])
+      (tree_walk triples t ∷ o (root_of triples t) ∷ flat_map f (tree_walk triples t) ∷ o t ∷ []) (+3 ∷ [])
+      (-0 ∷ +1 ∷ +2 ∷ [])
       (-0 ∷ []) (+0 ∷ +3 ∷ []) (+1 ∷ +2 ∷ []) [] refl
-      (sym (inner_along l.known triples f f0 o (root_of triples t) t (tree_walk triples t) n (l.forest.walk t below))) refl
+      (sym (inner_along l.known triples f f0 o (root_of triples t) t (tree_walk triples t) n (l.forest.walk t below)))
+      refl
 
   pub same_walks : (t : ℕ) → t < length triples → reduce (p t) ≡ reduce (q t)
   same_walks t below =
       from_root p h t below
-      ∙ reduce-inside l.known (inverse_word (tree_walk triples t)) (p (root_of triples t)) (q (root_of triples t)) (flat_map f (tree_walk triples t))
+      ∙ reduce-inside l.known (inverse_word (tree_walk triples t)) (p (root_of triples t)) (q (root_of triples t))
+      (flat_map f (tree_walk triples t))
       (same_at_root t below)
       ∙ sym (from_root q k t below)
 

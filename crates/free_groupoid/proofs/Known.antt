@@ -37,7 +37,8 @@ glued known surface triples tri = record {
 }
 
 abbrev pub glue_of : (triples : List (List ℤ)) → Laws triples → Glued triples
-glue_of triples l = record { known = l.known; triangulation = l.triangulation; triangles = l.triangles; walks = l.walks }
+glue_of triples l =
+    record { known = l.known; triangulation = l.triangulation; triangles = l.triangles; walks = l.walks }
 
 pub with_forest : (triples : List (List ℤ)) → Glued triples → ForestLaws triples → Laws triples
 with_forest triples glue forest = record {

@@ -1,5 +1,6 @@
 -- Elements of lists: of a list with one more in front, of a filtered list, of a range, and those that pass a test.
-use Rattle.std.proofs.Common.{ℕ, zero, suc, Bool, true, List, [], ◌∷◌, ◌≡◌, ◌<◌, ◌≤◌, ◌+◌, ◌⊎◌, inl, inr, refl, sym, ◌∙◌, ap, subst, arith, ◌-◌}
+use Rattle.std.proofs.Common.{ℕ, zero, suc, Bool, true, List, [], ◌∷◌, ◌≡◌, ◌<◌, ◌≤◌, ◌+◌, ◌⊎◌, inl, inr, refl, sym}
+use Rattle.std.proofs.Common.{◌∙◌, ap, subst, arith, ◌-◌}
 use Rattle.std.proofs.lemmas.List.FromFn.{length-range_with_len, get_or-range_with_len}
 use Rattle.std.specs.List.{Contains, filter, flat_map, list_any, range_with_len}
 use Rattle.std.proofs.lemmas.List.Elements.{Contains-append_left, Contains-append_right, Contains-append_cases}
@@ -22,7 +23,8 @@ no_member y (k, below, e) = omega arith
 
 -- ---- tests
 
-pub any_member : {X : Type 0} → (p : X → Bool) (xs : List X) → list_any p xs ≡ true → (x : X) × Contains xs x × (p x ≡ true)
+pub any_member : {X : Type 0} → (p : X → Bool) (xs : List X) → list_any p xs ≡ true
+    → (x : X) × Contains xs x × (p x ≡ true)
 any_member p [] h = absurd (cc)
 any_member p (x ∷ xs) h =
     elim (or_cases (p x) (list_any p xs) h) [
@@ -40,33 +42,41 @@ member_any p (y ∷ xs) x h passes =
 
 -- ---- filters
 
-pub member_filter : {X : Type 0} → (p : X → Bool) (xs : List X) (x : X) → Contains xs x → p x ≡ true → Contains (filter p xs) x
+pub member_filter : {X : Type 0} → (p : X → Bool) (xs : List X) (x : X) → Contains xs x → p x ≡ true
+    → Contains (filter p xs) x
 member_filter p [] x h passes = absurd (no_member x h)
 member_filter p (y ∷ xs) x h passes =
     elim (member_cases y xs x h) [
       | inl e ↦
-          subst (λ (zs : List _). Contains zs x) (sym (cond-true (p y) (y ∷ filter p xs) (filter p xs) (ap p e ∙ passes)))
+          subst (λ (zs : List _). Contains zs x)
+          (sym (cond-true (p y) (y ∷ filter p xs) (filter p xs) (ap p e ∙ passes)))
           (subst (Contains (y ∷ filter p xs)) e (member_here y (filter p xs)))
       | inr later ↦
           (let rest : Contains (filter p xs) x = member_filter p xs x later passes in
           elim (cases_Bool (p y)) [
             | inl kept ↦
-                subst (λ (zs : List _). Contains zs x) (sym (cond-true (p y) (y ∷ filter p xs) (filter p xs) kept)) (member_later y (filter p xs) x rest)
-            | inr dropped ↦ subst (λ (zs : List _). Contains zs x) (sym (cond-false (p y) (y ∷ filter p xs) (filter p xs) dropped)) rest
+                subst (λ (zs : List _). Contains zs x) (sym (cond-true (p y) (y ∷ filter p xs) (filter p xs) kept))
+                (member_later y (filter p xs) x rest)
+            | inr dropped ↦
+                subst (λ (zs : List _). Contains zs x) (sym (cond-false (p y) (y ∷ filter p xs) (filter p xs) dropped))
+                rest
           ])
     ]
 
-pub filter_member : {X : Type 0} → (p : X → Bool) (xs : List X) (x : X) → Contains (filter p xs) x → Contains xs x × (p x ≡ true)
+pub filter_member : {X : Type 0} → (p : X → Bool) (xs : List X) (x : X) → Contains (filter p xs) x
+    → Contains xs x × (p x ≡ true)
 filter_member p [] x h = absurd (no_member x h)
 filter_member p (y ∷ xs) x h =
     elim (cases_Bool (p y)) [
       | inl kept ↦
-          elim (member_cases y (filter p xs) x (subst (λ (zs : List _). Contains zs x) (cond-true (p y) (y ∷ filter p xs) (filter p xs) kept) h)) [
+          elim (member_cases y (filter p xs) x
+          (subst (λ (zs : List _). Contains zs x) (cond-true (p y) (y ∷ filter p xs) (filter p xs) kept) h)) [
             | inl e ↦ (subst (Contains (y ∷ xs)) e (member_here y xs), sym (ap p e) ∙ kept)
             | inr later ↦ (let rest = filter_member p xs x later in (member_later y xs x rest.0, rest.1))
           ]
       | inr dropped ↦
-          (let rest = filter_member p xs x (subst (λ (zs : List _). Contains zs x) (cond-false (p y) (y ∷ filter p xs) (filter p xs) dropped) h) in
+          (let rest = filter_member p xs x
+          (subst (λ (zs : List _). Contains zs x) (cond-false (p y) (y ∷ filter p xs) (filter p xs) dropped) h) in
           (member_later y xs x rest.0, rest.1))
     ]
 
@@ -85,7 +95,8 @@ range_member a n k (i, below, e) =
 
 -- ---- lists joined end to end
 
-pub member_flat_map : {X Y : Type 0} → (f : X → List Y) (xs : List X) (x : X) (y : Y) → Contains xs x → Contains (f x) y → Contains (flat_map f xs) y
+pub member_flat_map : {X Y : Type 0} → (f : X → List Y) (xs : List X) (x : X) (y : Y) → Contains xs x → Contains (f x) y
+    → Contains (flat_map f xs) y
 member_flat_map f [] x y h k = absurd (no_member x h)
 member_flat_map f (z ∷ xs) x y h k =
     elim (member_cases z xs x h) [
@@ -93,7 +104,8 @@ member_flat_map f (z ∷ xs) x y h k =
       | inr later ↦ Contains-append_right (f z) (flat_map f xs) y (member_flat_map f xs x y later k)
     ]
 
-pub flat_map_member : {X Y : Type 0} → (f : X → List Y) (xs : List X) (y : Y) → Contains (flat_map f xs) y → (x : X) × Contains xs x × Contains (f x) y
+pub flat_map_member : {X Y : Type 0} → (f : X → List Y) (xs : List X) (y : Y) → Contains (flat_map f xs) y
+    → (x : X) × Contains xs x × Contains (f x) y
 flat_map_member f [] y h = absurd (no_member y h)
 flat_map_member f (x ∷ xs) y h =
     elim (Contains-append_cases (f x) (flat_map f xs) y h) [

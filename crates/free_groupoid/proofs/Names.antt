@@ -103,9 +103,11 @@ module _ (known : Known) where
   reduce-inside a u v b e = known.words.reduction.right a (u ++ b) (v ++ b) (known.words.reduction.left u v b e)
 
   -- an odd substitution goes with reductions
-  pub flat_map-respects : (f : ℤ → List ℤ) (u v : List ℤ) → IsOdd f → reduce u ≡ reduce v → reduce (flat_map f u) ≡ reduce (flat_map f v)
+  pub flat_map-respects : (f : ℤ → List ℤ) (u v : List ℤ) → IsOdd f → reduce u ≡ reduce v
+      → reduce (flat_map f u) ≡ reduce (flat_map f v)
   flat_map-respects f u v odd e =
-      sym (known.maps.substitutions.reduced_before f u odd) ∙ ap (λ (z : List ℤ). reduce (flat_map f z)) e ∙ known.maps.substitutions.reduced_before f v odd
+      sym (known.maps.substitutions.reduced_before f u odd) ∙ ap (λ (z : List ℤ). reduce (flat_map f z)) e
+      ∙ known.maps.substitutions.reduced_before f v odd
 
   -- words of names with the same reduction
   pub by_name : (words : List (List ℤ)) (u v : List ℤ) → reduce u ≡ reduce v
@@ -122,15 +124,19 @@ module _ (known : Known) where
   by_fact words u v a p q b before fact after =
       by_name words u (a ++ (p ++ b)) before ∙ inside ∙ by_name words (a ++ (q ++ b)) v after
     where
-      parts : (m : List ℤ) → spell (named words) (a ++ (m ++ b)) ≡ flat_map (named words) a ++ (spell (named words) m ++ flat_map (named words) b)
+      parts : (m : List ℤ)
+          → spell (named words)
+          (a ++ (m ++ b)) ≡ flat_map (named words) a ++ (spell (named words) m ++ flat_map (named words) b)
       parts m =
           spell-flat_map (named words) (a ++ (m ++ b))
           ∙ flat_map-append (named words) a (m ++ b)
           ∙ ap (λ (z : List ℤ). flat_map (named words) a ++ z) (flat_map-append (named words) m b)
-          ∙ ap (λ (z : List ℤ). flat_map (named words) a ++ (z ++ flat_map (named words) b)) (sym (spell-flat_map (named words) m))
+          ∙ ap (λ (z : List ℤ). flat_map (named words) a ++ (z ++ flat_map (named words) b))
+          (sym (spell-flat_map (named words) m))
 
       inside : reduce (spell (named words) (a ++ (p ++ b))) ≡ reduce (spell (named words) (a ++ (q ++ b)))
       inside =
           ap reduce (parts p)
-          ∙ reduce-inside (flat_map (named words) a) (spell (named words) p) (spell (named words) q) (flat_map (named words) b) fact
+          ∙ reduce-inside (flat_map (named words) a) (spell (named words) p) (spell (named words) q)
+          (flat_map (named words) b) fact
           ∙ ap reduce (sym (parts q))

@@ -1,5 +1,6 @@
 -- Trees from all triangles in turn: at the end each triangle is reached, and sides lead to nodes of the same tree.
-use Rattle.std.proofs.Common.{ℕ, ℤ, zero, suc, true, false, List, [], ◌∷◌, ◌++◌, ◌≡◌, ◌<◌, ◌+◌, ◌⊎◌, inl, inr, sym, ◌∙◌, ap, subst, append_assoc, arith, length}
+use Rattle.std.proofs.Common.{ℕ, ℤ, zero, suc, true, false, List, [], ◌∷◌, ◌++◌, ◌≡◌, ◌<◌, ◌+◌, ◌⊎◌, inl, inr, sym, ◌∙◌}
+use Rattle.std.proofs.Common.{ap, subst, append_assoc, arith, length}
 use Rattle.std.specs.List.{Contains, range_with_len}
 use Rattle.std.proofs.Math.Numerals.{add-one}
 use Rattle.std.proofs.lemmas.Bool.{cases_Bool, cond-true, cond-false, cases_eq}
@@ -42,7 +43,8 @@ module _ (triples : List (List ℤ)) (glue : Glued triples) where
           ]
 
   -- the first node that waits has its turn
-  begin_turn : (r bound : ℕ) (done : List Node) (n : Node) (todo : List Node) → IsGrowing triples r (suc bound) done (n ∷ todo)
+  begin_turn : (r bound : ℕ) (done : List Node) (n : Node) (todo : List Node)
+      → IsGrowing triples r (suc bound) done (n ∷ todo)
       → IsTurning triples r bound n (done ++ (n ∷ [])) todo (sides_in_order triples n.triangle)
   begin_turn r bound done n todo g = record {
     forest = subst (IsForest triples) regroup g.forest;
@@ -64,14 +66,16 @@ module _ (triples : List (List ℤ)) (glue : Glued triples) where
       go m (inl k) = inr (subst (λ (ms : List Node). IsClosed triples ms m) regroup (g.closed m k))
       go m (inr e) = inl (sym e)
 
-  grown : (r bound : ℕ) (done todo : List Node) → IsGrowing triples r bound done todo → IsGrown triples (suc r) (grow triples bound done todo)
+  grown : (r bound : ℕ) (done todo : List Node) → IsGrowing triples r bound done todo
+      → IsGrown triples (suc r) (grow triples bound done todo)
   grown r zero done [] g =
       subst (IsGrown triples (suc r)) (sym (append-nil done)) (all_done r zero done g)
   grown r zero done (n ∷ todo) g = absurd (omega (arith, g.few))
   grown r (suc bound) done [] g = all_done r (suc bound) done g
   grown r (suc bound) done (n ∷ todo) g =
       grown r bound (done ++ (n ∷ [])) (sprout triples n (sides_in_order triples n.triangle) (done ++ (n ∷ [])) todo)
-      (turn triples glue r bound n (done ++ (n ∷ [])) (sides_in_order triples n.triangle) todo (begin_turn r bound done n todo g))
+      (turn triples glue r bound n (done ++ (n ∷ [])) (sides_in_order triples n.triangle) todo
+      (begin_turn r bound done n todo g))
 
   -- ---- all trees
 
@@ -80,7 +84,9 @@ module _ (triples : List (List ℤ)) (glue : Glued triples) where
       → IsGrowing triples r (length triples) nodes (root_node r ∷ [])
   rooted r nodes below new g = record {
     forest = planted_forest triples glue nodes g.forest r below new (side_of_triangle triples glue r below);
-    closed = λ n k. closed_more triples nodes (nodes ++ (root_node r ∷ [])) n (λ m h. Contains-append_left nodes (root_node r ∷ []) m h) (g.closed n k);
+    closed =
+        λ n k. closed_more triples nodes (nodes ++ (root_node r ∷ [])) n
+        (λ m h. Contains-append_left nodes (root_node r ∷ []) m h) (g.closed n k);
     waiting = λ n k. go n (member_cases (root_node r) [] n k);
     below = λ i k. still_reached nodes (root_node r) i (g.below i k);
     root = now_reached nodes (root_node r);
@@ -98,7 +104,8 @@ module _ (triples : List (List ℤ)) (glue : Glued triples) where
       elim (cases_Bool (has_node nodes k)) [
         | inl h ↦
             subst (IsGrown triples (length triples)) (sym (cond-true (has_node nodes k) (rest nodes) (rest tree) h))
-            (planted m (k + 1) nodes (omega arith) (record { forest = g.forest; closed = g.closed; below = λ i b. up_to h i b }))
+            (planted m (k + 1) nodes (omega arith)
+            (record { forest = g.forest; closed = g.closed; below = λ i b. up_to h i b }))
         | inr h ↦
             subst (IsGrown triples (length triples)) (sym (cond-false (has_node nodes k) (rest nodes) (rest tree) h))
             (planted m (k + 1) tree (omega arith)

@@ -41,15 +41,18 @@ module _ (known : Known) where
   letter_passes : (x y : ℤ) (p : List ℤ) → (y ≡ x) ⊎ (y ≡ inverse x) → Carries p (x ∷ []) (x ∷ [])
       → Carries (y ∷ p) (x ∷ []) (x ∷ [])
   letter_passes x y p (inl e) h =
-      subst (λ (z : ℤ). Carries (z ∷ p) (x ∷ []) (x ∷ [])) (sym e) (known.words.reduction.right (x ∷ []) (x ∷ p) (p ++ (x ∷ [])) h)
+      subst (λ (z : ℤ). Carries (z ∷ p) (x ∷ []) (x ∷ [])) (sym e)
+      (known.words.reduction.right (x ∷ []) (x ∷ p) (p ++ (x ∷ [])) h)
   letter_passes x y p (inr e) h =
       subst (λ (z : ℤ). Carries (z ∷ p) (x ∷ []) (x ∷ [])) (sym e)
-      (by_fact known ((x ∷ []) ∷ p ∷ []) (+0 ∷ -0 ∷ +1 ∷ []) (-0 ∷ +1 ∷ +0 ∷ []) (-0 ∷ []) (+0 ∷ +1 ∷ []) (+1 ∷ +0 ∷ []) [] refl h refl)
+      (by_fact known ((x ∷ []) ∷ p ∷ []) (+0 ∷ -0 ∷ +1 ∷ []) (-0 ∷ +1 ∷ +0 ∷ []) (-0 ∷ []) (+0 ∷ +1 ∷ [])
+      (+1 ∷ +0 ∷ []) [] refl h refl)
 
   -- letters of the edge of x commute with x
   pub power_commutes : (x : ℤ) (p : List ℤ) → Only x p → Carries p (x ∷ []) (x ∷ [])
   power_commutes x [] h = refl
-  power_commutes x (y ∷ p) h = letter_passes x y p (known.labels.of_edge y x (Only-head x y p h)) (power_commutes x p (Only-tail x y p h))
+  power_commutes x (y ∷ p) h =
+      letter_passes x y p (known.labels.of_edge y x (Only-head x y p h)) (power_commutes x p (Only-tail x y p h))
 
   -- a letter of another edge may follow
   IsReduced-then : (x y : ℤ) (w : List ℤ) → edge_of x ≢ edge_of y → Only y w → IsReduced w → IsReduced (w ++ (x ∷ []))
@@ -58,11 +61,13 @@ module _ (known : Known) where
   IsReduced-then x y (z ∷ (a ∷ w)) n only h = (h.0, IsReduced-then x y (a ∷ w) n (Only-tail y z (a ∷ w) only) h.1)
 
   -- letters of another edge alone don't commute with x
-  pub power_alone : (x y : ℤ) (w : List ℤ) → edge_of x ≢ edge_of y → Only y w → IsReduced w → Carries w (x ∷ []) (x ∷ []) → w ≡ []
+  pub power_alone : (x y : ℤ) (w : List ℤ) → edge_of x ≢ edge_of y → Only y w → IsReduced w
+      → Carries w (x ∷ []) (x ∷ []) → w ≡ []
   power_alone x y [] n only h c = refl
   power_alone x y (z ∷ w) n only h c =
       let front : IsReduced (x ∷ (z ∷ w)) = (apart known z x (λ e. n (sym e ∙ Only-head y z w only)), h) in
       let lists : x ∷ (z ∷ w) ≡ (z ∷ w) ++ (x ∷ []) =
-      sym (known.words.reduction.fixed (x ∷ (z ∷ w)) front) ∙ c ∙ known.words.reduction.fixed ((z ∷ w) ++ (x ∷ [])) (IsReduced-then x y (z ∷ w) n only h) in
+      sym (known.words.reduction.fixed (x ∷ (z ∷ w)) front) ∙ c ∙ known.words.reduction.fixed ((z ∷ w) ++ (x ∷ []))
+      (IsReduced-then x y (z ∷ w) n only h) in
       let heads : x ≡ z = cc in
       absurd (n (ap edge_of heads ∙ Only-head y z w only))

@@ -22,7 +22,8 @@ IsReduced-back [] v h = h
 IsReduced-back (x ∷ u) v h = IsReduced-back u v (IsReduced-tail x (u ++ v) h)
 
 -- two reduced words joined at a letter x, the last of the first and the first of the second
-IsReduced-glue : (u : List ℤ) (x : ℤ) (v : List ℤ) → IsReduced (u ++ (x ∷ [])) → IsReduced (x ∷ v) → IsReduced (u ++ (x ∷ v))
+IsReduced-glue : (u : List ℤ) (x : ℤ) (v : List ℤ) → IsReduced (u ++ (x ∷ [])) → IsReduced (x ∷ v)
+    → IsReduced (u ++ (x ∷ v))
 IsReduced-glue [] x v h k = k
 IsReduced-glue (y ∷ []) x v h k = (h.0, k)
 IsReduced-glue (y ∷ (z ∷ u)) x v h k = (h.0, IsReduced-glue (z ∷ u) x v h.1 k)
@@ -33,14 +34,17 @@ pub apart : Known → (x y : ℤ) → edge_of x ≢ edge_of y → x ≢ inverse 
 apart known x y n e = n (ap edge_of e ∙ known.labels.edge y)
 
 -- letters of different edges may stand side by side
-pub IsReduced-join : Known → (u : List ℤ) (x y : ℤ) (v : List ℤ) → edge_of y ≢ edge_of x → IsReduced (u ++ (x ∷ [])) → IsReduced (y ∷ v)
+pub IsReduced-join : Known → (u : List ℤ) (x y : ℤ) (v : List ℤ) → edge_of y ≢ edge_of x → IsReduced (u ++ (x ∷ []))
+    → IsReduced (y ∷ v)
     → IsReduced (u ++ (x ∷ (y ∷ v)))
 IsReduced-join known u x y v n h k = IsReduced-glue u x (y ∷ v) h (apart known y x n, k)
 
 -- ---- the way back
 
 pub IsReduced-inverse_word : Known → (w : List ℤ) → IsReduced w → IsReduced (inverse_word w)
-IsReduced-inverse_word known w h = subst IsReduced (known.words.reduction.inverse w ∙ ap inverse_word (known.words.reduction.fixed w h)) (known.words.reduction.is_reduced (inverse_word w))
+IsReduced-inverse_word known w h =
+    subst IsReduced (known.words.reduction.inverse w ∙ ap inverse_word (known.words.reduction.fixed w h))
+    (known.words.reduction.is_reduced (inverse_word w))
 
 -- ---- letters
 

@@ -12,13 +12,16 @@ use Rattle.free_groupoid.proofs.RelatedTest.{related_alike, alike_related, same_
 pub related_laws : MapLaws → ((triples : List (List ℤ)) → IsTriangulation triples → Laws triples) → RelatedLaws
 related_laws maps laws = record {
   alike = λ source target first second f0 g0 p f g h.
-      related_alike source target (laws source f.start) (glue_of target (laws target f.end)) (path_map first) (path_map second) f0 g0 f.map g.map p h;
+      related_alike source target (laws source f.start) (glue_of target (laws target f.end)) (path_map first)
+      (path_map second) f0 g0 f.map g.map p h;
   related = λ source target first second f0 g0 f g alike.
       let (b0, o) = path_inverse maps source target first f0 f in
-      alike_related source target (laws source f.start) (glue_of target (laws target f.end)) (path_map first) (path_map second) f0 g0 f.map g.map
+      alike_related source target (laws source f.start) (glue_of target (laws target f.end)) (path_map first)
+      (path_map second) f0 g0 f.map g.map
       (path_map (back_along first)) b0 o alike;
   only = λ source target first second f0 g0 p q f g h k.
       let (b0, o) = path_inverse maps source target first f0 f in
-      same_relation source target (laws source f.start) (glue_of target (laws target f.end)) (path_map first) (path_map second) f0 g0 f.map g.map
+      same_relation source target (laws source f.start) (glue_of target (laws target f.end)) (path_map first)
+      (path_map second) f0 g0 f.map g.map
       (path_map (back_along first)) b0 o p q h k;
 }

@@ -17,7 +17,8 @@ use Rattle.free_groupoid.proofs.Names.{+0, -0, +1, +2, +3, -3, +4, +5, +6, by_fa
 module _ (known : Known) where
   -- the equation holds for each walk
   pub related_along : (source target : List (List ℤ)) (f g : ℤ → List ℤ) (f0 g0 : ℕ → ℕ) (p : ℕ → List ℤ)
-      → IsRelated source target f f0 g g0 p → (i j : ℕ) (w : List ℤ) → IsWalk source i w j → reduce (p i ++ flat_map g w) ≡ reduce (flat_map f w ++ p j)
+      → IsRelated source target f f0 g g0 p → (i j : ℕ) (w : List ℤ) → IsWalk source i w j
+      → reduce (p i ++ flat_map g w) ≡ reduce (flat_map f w ++ p j)
   related_along source target f g f0 g0 p h i j [] walk = ap reduce (append-nil (p i) ∙ ap p walk)
   related_along source target f g f0 g0 p h i j (x ∷ w) walk =
       by_fact known names (+0 ∷ +1 ∷ +2 ∷ []) (+3 ∷ +4 ∷ +2 ∷ []) [] (+0 ∷ +1 ∷ []) (+3 ∷ +4 ∷ []) (+2 ∷ []) refl
@@ -34,33 +35,41 @@ module _ (known : Known) where
 
   -- ---- an equivalence
 
-  related_same : (source target : List (List ℤ)) (f : ℤ → List ℤ) (f0 : ℕ → ℕ) → IsRelated source target f f0 f f0 (λ t. [])
-  related_same source target f f0 = record { walks = λ t below. refl; equations = λ x label. ap reduce (sym (append-nil (f x))) }
+  related_same : (source target : List (List ℤ)) (f : ℤ → List ℤ) (f0 : ℕ → ℕ)
+      → IsRelated source target f f0 f f0 (λ t. [])
+  related_same source target f f0 =
+      record { walks = λ t below. refl; equations = λ x label. ap reduce (sym (append-nil (f x))) }
 
   related_back : (source target : List (List ℤ)) → WalkLaws target → (f g : ℤ → List ℤ) (f0 g0 : ℕ → ℕ) (p : ℕ → List ℤ)
       → IsRelated source target f f0 g g0 p → IsRelated source target g g0 f f0 (λ t. inverse_word (p t))
   related_back source target walks f g f0 g0 p h = record {
     walks = λ t below. walks.back (f0 t) (g0 t) (p t) (h.walks t below);
     equations = λ x label.
-        by_fact known (p (triangle_of source x) ∷ g x ∷ f x ∷ p (triangle_of source (inverse x)) ∷ []) (-0 ∷ +2 ∷ []) (+1 ∷ -3 ∷ [])
+        by_fact known (p (triangle_of source x) ∷ g x ∷ f x ∷ p (triangle_of source (inverse x)) ∷ []) (-0 ∷ +2 ∷ [])
+        (+1 ∷ -3 ∷ [])
         (-0 ∷ []) (+2 ∷ +3 ∷ []) (+0 ∷ +1 ∷ []) (-3 ∷ []) refl (sym (h.equations x label)) refl;
   }
 
-  related_join : (source target : List (List ℤ)) → WalkLaws target → (f g k : ℤ → List ℤ) (f0 g0 k0 : ℕ → ℕ) (p q : ℕ → List ℤ)
-      → IsRelated source target f f0 g g0 p → IsRelated source target g g0 k k0 q → IsRelated source target f f0 k k0 (λ t. p t ++ q t)
+  related_join : (source target : List (List ℤ)) → WalkLaws target
+      → (f g k : ℤ → List ℤ) (f0 g0 k0 : ℕ → ℕ) (p q : ℕ → List ℤ)
+      → IsRelated source target f f0 g g0 p → IsRelated source target g g0 k k0 q
+      → IsRelated source target f f0 k k0 (λ t. p t ++ q t)
   related_join source target walks f g k f0 g0 k0 p q h m = record {
     walks = λ t below. walks.join (f0 t) (g0 t) (k0 t) (p t) (q t) (h.walks t below) (m.walks t below);
     equations = λ x label.
         ap reduce (append_assoc (p (triangle_of source x)) (q (triangle_of source x)) (k x))
-        ∙ known.words.reduction.right (p (triangle_of source x)) (q (triangle_of source x) ++ k x) (g x ++ q (triangle_of source (inverse x))) (m.equations x label)
+        ∙ known.words.reduction.right (p (triangle_of source x)) (q (triangle_of source x) ++ k x)
+        (g x ++ q (triangle_of source (inverse x))) (m.equations x label)
         ∙ ap reduce (sym (append_assoc (p (triangle_of source x)) (g x) (q (triangle_of source (inverse x)))))
-        ∙ known.words.reduction.left (p (triangle_of source x) ++ g x) (f x ++ p (triangle_of source (inverse x))) (q (triangle_of source (inverse x))) (h.equations x label)
+        ∙ known.words.reduction.left (p (triangle_of source x) ++ g x) (f x ++ p (triangle_of source (inverse x)))
+        (q (triangle_of source (inverse x))) (h.equations x label)
         ∙ ap reduce (append_assoc (f x) (p (triangle_of source (inverse x))) (q (triangle_of source (inverse x))));
   }
 
   -- ---- a map after both, and before both
 
-  related_followed : (source target last : List (List ℤ)) → IsTriangulation last → (f g k : ℤ → List ℤ) (f0 g0 k0 : ℕ → ℕ) (p : ℕ → List ℤ)
+  related_followed : (source target last : List (List ℤ)) → IsTriangulation last
+      → (f g k : ℤ → List ℤ) (f0 g0 k0 : ℕ → ℕ) (p : ℕ → List ℤ)
       → IsMap target last k k0 → IsRelated source target f f0 g g0 p
       → IsRelated source last (after k f) (λ t. k0 (f0 t)) (after k g) (λ t. k0 (g0 t)) (λ t. flat_map k (p t))
   related_followed source target last tri f g k f0 g0 k0 p m h = record {
@@ -68,11 +77,13 @@ module _ (known : Known) where
     equations = λ x label.
         let before : List ℤ = p (triangle_of source x) in
         let behind : List ℤ = p (triangle_of source (inverse x)) in
-        known.words.reduction.right (flat_map k before) (after k g x) (flat_map k (g x)) (known.words.reduction.twice (flat_map k (g x)))
+        known.words.reduction.right (flat_map k before) (after k g x) (flat_map k (g x))
+        (known.words.reduction.twice (flat_map k (g x)))
         ∙ ap reduce (sym (flat_map-append k before (g x)))
         ∙ flat_map-respects known k (before ++ g x) (f x ++ behind) m.odd (h.equations x label)
         ∙ ap reduce (flat_map-append k (f x) behind)
-        ∙ known.words.reduction.left (flat_map k (f x)) (after k f x) (flat_map k behind) (sym (known.words.reduction.twice (flat_map k (f x))));
+        ∙ known.words.reduction.left (flat_map k (f x)) (after k f x) (flat_map k behind)
+        (sym (known.words.reduction.twice (flat_map k (f x))));
   }
 
   related_preceded : (first source target : List (List ℤ)) (k f g : ℤ → List ℤ) (k0 f0 g0 : ℕ → ℕ) (p : ℕ → List ℤ)
@@ -83,9 +94,12 @@ module _ (known : Known) where
     equations = λ x label.
         let before : List ℤ = p (k0 (triangle_of first x)) in
         let behind : List ℤ = p (k0 (triangle_of first (inverse x))) in
-        known.words.reduction.right before (after g k x) (flat_map g (k x)) (known.words.reduction.twice (flat_map g (k x)))
-        ∙ related_along source target f g f0 g0 p h (k0 (triangle_of first x)) (k0 (triangle_of first (inverse x))) (k x) (m.walks x label)
-        ∙ known.words.reduction.left (flat_map f (k x)) (after f k x) behind (sym (known.words.reduction.twice (flat_map f (k x))));
+        known.words.reduction.right before (after g k x) (flat_map g (k x))
+        (known.words.reduction.twice (flat_map g (k x)))
+        ∙ related_along source target f g f0 g0 p h (k0 (triangle_of first x)) (k0 (triangle_of first (inverse x)))
+        (k x) (m.walks x label)
+        ∙ known.words.reduction.left (flat_map f (k x)) (after f k x) behind
+        (sym (known.words.reduction.twice (flat_map f (k x))));
   }
 
 -- ---- inner maps are those related to the identity
@@ -102,7 +116,9 @@ pub relation_laws : Known → SurfaceLaws → RelationLaws
 relation_laws known surface = record {
   same = related_same known;
   back = λ source target f g f0 g0 p tri. related_back known source target (surface.walks target tri) f g f0 g0 p;
-  join = λ source target f g k f0 g0 k0 p q tri. related_join known source target (surface.walks target tri) f g k f0 g0 k0 p q;
+  join =
+      λ source target f g k f0 g0 k0 p q tri. related_join known source target (surface.walks target tri) f g k f0 g0
+      k0 p q;
   followed = λ source target last f g k f0 g0 k0 p tri. related_followed known source target last tri f g k f0 g0 k0 p;
   preceded = related_preceded known;
   inner = related_inner;

@@ -1,5 +1,6 @@
 -- From a walk at each root that carries the loops to their images to a walk for each triangle.
-use Rattle.std.proofs.Common.{ℕ, ℤ, pos, negsuc, Bool, true, false, List, [], ◌∷◌, ◌++◌, ◌≡◌, ◌<◌, refl, sym, ◌∙◌, ap, append_assoc, length}
+use Rattle.std.proofs.Common.{ℕ, ℤ, pos, negsuc, Bool, true, false, List, [], ◌∷◌, ◌++◌, ◌≡◌, ◌<◌, refl, sym, ◌∙◌, ap}
+use Rattle.std.proofs.Common.{append_assoc, length}
 use Rattle.std.specs.List.{flat_map}
 use Rattle.std.proofs.lemmas.List.{append-nil}
 use Rattle.std.proofs.lemmas.List.Concat.{flat_map-append}
@@ -25,28 +26,37 @@ abbrev pub path_from : List (List ℤ) → (ℤ → List ℤ) → (ℕ → List 
 path_from triples f p t =
     reduce (inverse_word (tree_walk triples t) ++ (p (root_of triples t) ++ flat_map f (tree_walk triples t)))
 
-module _ (triples : List (List ℤ)) (l : Laws triples) (f : ℤ → List ℤ) (f0 : ℕ → ℕ) (m : IsMap triples triples f f0) where
+module _ (triples : List (List ℤ)) (l : Laws triples) (f : ℤ → List ℤ) (f0 : ℕ → ℕ)
+    (m : IsMap triples triples f f0) where
   path_walk : (p : List ℤ) (t : ℕ) → t < length triples → IsWalk triples (root_of triples t) p (f0 (root_of triples t))
       → IsWalk triples t (inverse_word (tree_walk triples t) ++ (p ++ flat_map f (tree_walk triples t))) (f0 t)
   path_walk p t below walk =
       let there : IsWalk triples (root_of triples t) (tree_walk triples t) t = l.forest.walk t below in
-      l.walks.join t (root_of triples t) (f0 t) (inverse_word (tree_walk triples t)) (p ++ flat_map f (tree_walk triples t))
+      l.walks.join t (root_of triples t) (f0 t) (inverse_word (tree_walk triples t))
+      (p ++ flat_map f (tree_walk triples t))
       (l.walks.back (root_of triples t) t (tree_walk triples t) there)
       (l.walks.join (root_of triples t) (f0 (root_of triples t)) (f0 t) p (flat_map f (tree_walk triples t)) walk
-      (l.known.maps.walks.walks triples triples f f0 (root_of triples t) t (tree_walk triples t) l.triangulation m there))
+      (l.known.maps.walks.walks triples triples f f0 (root_of triples t) t (tree_walk triples t) l.triangulation m
+      there))
 
   -- the equation at a letter, from that of its loop
   letter_equation : (p : List ℤ) (x : ℤ) → reduce (p ++ flat_map f (loop triples x)) ≡ reduce (loop triples x ++ p)
-      → reduce ((inverse_word (tree_walk triples (triangle_of triples x)) ++ (p ++ flat_map f (tree_walk triples (triangle_of triples x)))) ++ f x)
+      → reduce
+      ((inverse_word (tree_walk triples (triangle_of triples x)) ++
+      (p ++ flat_map f (tree_walk triples (triangle_of triples x)))) ++ f x)
       ≡ reduce (x ∷ (inverse_word (tree_walk triples (triangle_of triples (inverse x)))
       ++ (p ++ flat_map f (tree_walk triples (triangle_of triples (inverse x))))))
   letter_equation p x e =
       ap reduce
-      (append_assoc (inverse_word here) (p ++ flat_map f here) (f x) ∙ ap (λ (z : List ℤ). inverse_word here ++ z) (append_assoc p (flat_map f here) (f x)))
-      ∙ by_fact l.known names (-0 ∷ +1 ∷ +2 ∷ +3 ∷ []) (-0 ∷ +1 ∷ +8 ∷ +6 ∷ []) (-0 ∷ +1 ∷ []) (+2 ∷ +3 ∷ -6 ∷ []) (+8 ∷ []) (+6 ∷ [])
+      (append_assoc (inverse_word here) (p ++ flat_map f here) (f x) ∙ ap (λ (z : List ℤ). inverse_word here ++ z)
+      (append_assoc p (flat_map f here) (f x)))
+      ∙ by_fact l.known names (-0 ∷ +1 ∷ +2 ∷ +3 ∷ []) (-0 ∷ +1 ∷ +8 ∷ +6 ∷ []) (-0 ∷ +1 ∷ []) (+2 ∷ +3 ∷ -6 ∷ [])
+      (+8 ∷ []) (+6 ∷ [])
       refl (ap reduce (sym image)) refl
-      ∙ by_fact l.known names (-0 ∷ +1 ∷ +8 ∷ +6 ∷ []) (-0 ∷ +7 ∷ +1 ∷ +6 ∷ []) (-0 ∷ []) (+1 ∷ +8 ∷ []) (+7 ∷ +1 ∷ []) (+6 ∷ []) refl e refl
-      ∙ by_fact l.known names (-0 ∷ +7 ∷ +1 ∷ +6 ∷ []) (+4 ∷ -5 ∷ +1 ∷ +6 ∷ []) (-0 ∷ []) (+7 ∷ []) (+0 ∷ +4 ∷ -5 ∷ []) (+1 ∷ +6 ∷ []) refl refl refl
+      ∙ by_fact l.known names (-0 ∷ +1 ∷ +8 ∷ +6 ∷ []) (-0 ∷ +7 ∷ +1 ∷ +6 ∷ []) (-0 ∷ []) (+1 ∷ +8 ∷ []) (+7 ∷ +1 ∷ [])
+      (+6 ∷ []) refl e refl
+      ∙ by_fact l.known names (-0 ∷ +7 ∷ +1 ∷ +6 ∷ []) (+4 ∷ -5 ∷ +1 ∷ +6 ∷ []) (-0 ∷ []) (+7 ∷ []) (+0 ∷ +4 ∷ -5 ∷ [])
+      (+1 ∷ +6 ∷ []) refl refl refl
     where
       here : List ℤ
       here = tree_walk triples (triangle_of triples x)
@@ -56,18 +66,21 @@ module _ (triples : List (List ℤ)) (l : Laws triples) (f : ℤ → List ℤ) (
 
       names : List (List ℤ)
       names =
-          here ∷ p ∷ flat_map f here ∷ f x ∷ (x ∷ []) ∷ there ∷ flat_map f there ∷ loop triples x ∷ flat_map f (loop triples x) ∷ []
+          here ∷ p ∷ flat_map f here ∷ f x ∷ (x ∷ []) ∷ there ∷ flat_map f there ∷ loop triples x ∷ flat_map f
+          (loop triples x) ∷ []
 
       image : flat_map f (loop triples x) ≡ flat_map f here ++ (f x ++ inverse_word (flat_map f there))
       image =
           flat_map-append f here (x ∷ inverse_word there)
           ∙ ap (λ (z : List ℤ). flat_map f here ++ (f x ++ z)) (l.known.maps.substitutions.back f there m.odd)
 
-  pub inner_from_roots : (p : ℕ → List ℤ) → ((t : ℕ) → t < length triples → CarriesLoops triples f f0 (root_of triples t) (p (root_of triples t)))
+  pub inner_from_roots : (p : ℕ → List ℤ)
+      → ((t : ℕ) → t < length triples → CarriesLoops triples f f0 (root_of triples t) (p (root_of triples t)))
       → IsInner triples f f0 (path_from triples f p)
   inner_from_roots p h = record {
     walks = λ t below.
-        l.walks.reduced t (f0 t) (inverse_word (tree_walk triples t) ++ (p (root_of triples t) ++ flat_map f (tree_walk triples t)))
+        l.walks.reduced t (f0 t) (inverse_word (tree_walk triples t) ++
+        (p (root_of triples t) ++ flat_map f (tree_walk triples t)))
         (path_walk (p (root_of triples t)) t below (h t below).walk);
     equations = λ x label.
         let s : ℕ = triangle_of triples x in
@@ -75,11 +88,14 @@ module _ (triples : List (List ℤ)) (l : Laws triples) (f : ℤ → List ℤ) (
         let r : ℕ = root_of triples s in
         let same : root_of triples t ≡ r = l.forest.component x label in
         let whole : List ℤ = inverse_word (tree_walk triples s) ++ (p r ++ flat_map f (tree_walk triples s)) in
-        let other : List ℤ = inverse_word (tree_walk triples t) ++ (p (root_of triples t) ++ flat_map f (tree_walk triples t)) in
+        let other : List ℤ =
+        inverse_word (tree_walk triples t) ++ (p (root_of triples t) ++ flat_map f (tree_walk triples t)) in
         l.known.words.reduction.left (path_from triples f p s) whole (f x) (l.known.words.reduction.twice whole)
         ∙ letter_equation (p r) x ((h s (l.triangles.triangle x label)).equation x label refl)
-        ∙ ap (λ (i : ℕ). reduce (x ∷ (inverse_word (tree_walk triples t) ++ (p i ++ flat_map f (tree_walk triples t))))) (sym same)
-        ∙ l.known.words.reduction.right (x ∷ []) other (path_from triples f p t) (sym (l.known.words.reduction.twice other));
+        ∙ ap (λ (i : ℕ). reduce
+        (x ∷ (inverse_word (tree_walk triples t) ++ (p i ++ flat_map f (tree_walk triples t))))) (sym same)
+        ∙ l.known.words.reduction.right (x ∷ []) other (path_from triples f p t)
+        (sym (l.known.words.reduction.twice other));
   }
 
   -- ---- a walk at a root, from the loops of the outer edges
@@ -103,20 +119,25 @@ module _ (triples : List (List ℤ)) (l : Laws triples) (f : ℤ → List ℤ) (
   back_equation : (p : List ℤ) (x : ℤ) → reduce (p ++ flat_map f (loop triples x)) ≡ reduce (loop triples x ++ p)
       → reduce (p ++ flat_map f (loop triples (inverse x))) ≡ reduce (loop triples (inverse x) ++ p)
   back_equation p x e =
-      ap (λ (z : List ℤ). reduce (p ++ z)) (ap (flat_map f) (loop-odd l.known triples x) ∙ l.known.maps.substitutions.back f (loop triples x) m.odd)
+      ap (λ (z : List ℤ). reduce (p ++ z))
+      (ap (flat_map f) (loop-odd l.known triples x) ∙ l.known.maps.substitutions.back f (loop triples x) m.odd)
       ∙ by_fact l.known (p ∷ flat_map f (loop triples x) ∷ loop triples x ∷ []) (+0 ∷ -1 ∷ []) (-2 ∷ +0 ∷ [])
       (-2 ∷ []) (+2 ∷ +0 ∷ []) (+0 ∷ +1 ∷ []) (-1 ∷ []) refl (sym e) refl
       ∙ ap (λ (z : List ℤ). reduce (z ++ p)) (sym (loop-odd l.known triples x))
 
   -- the loops of outer edges decide
   pub carries_loops : (r : ℕ) (p : List ℤ) → IsWalk triples r p (f0 r)
-      → ((e : ℕ) → IsOuter triples r (pos e) → reduce (p ++ flat_map f (loop triples (pos e))) ≡ reduce (loop triples (pos e) ++ p))
+      → ((e : ℕ) → IsOuter triples r (pos e) → reduce (p ++ flat_map f (loop triples (pos e))) ≡ reduce
+      (loop triples (pos e) ++ p))
       → CarriesLoops triples f f0 r p
-  carries_loops r p walk h = record { walk = walk; equation = λ x label root. go x label root (is_tree_edge triples (edge_of x)) refl }
+  carries_loops r p walk h =
+      record { walk = walk; equation = λ x label root. go x label root (is_tree_edge triples (edge_of x)) refl }
     where
-      go : (x : ℤ) → IsLabel triples x → root_of triples (triangle_of triples x) ≡ r → (b : Bool) → is_tree_edge triples (edge_of x) ≡ b
+      go : (x : ℤ) → IsLabel triples x → root_of triples (triangle_of triples x) ≡ r → (b : Bool)
+          → is_tree_edge triples (edge_of x) ≡ b
           → reduce (p ++ flat_map f (loop triples x)) ≡ reduce (loop triples x ++ p)
       go x label root true tree = tree_equation p x label tree
       go (pos e) label root false outside = h e (record { label = label; outside = outside; root = root })
       go (negsuc e) label root false outside =
-          back_equation p (pos e) (h e (record { label = label; outside = outside; root = sym (l.forest.component (pos e) label) ∙ root }))
+          back_equation p (pos e) (h e
+          (record { label = label; outside = outside; root = sym (l.forest.component (pos e) label) ∙ root }))

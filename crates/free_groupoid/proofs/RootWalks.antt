@@ -1,4 +1,5 @@
--- Where all test walks are kept, each component goes to itself, and a walk at its root carries all loops to their images.
+-- Where all test walks are kept, each component goes to itself, and a walk at its root carries all loops to their
+-- images.
 use Rattle.std.proofs.Common.{ℕ, ℤ, pos, List, [], ◌∷◌, ◌++◌, ◌≡◌, ◌<◌, refl, sym, ◌∙◌, ap, subst, length}
 use Rattle.std.specs.List.{All, Contains, flat_map}
 use Rattle.std.proofs.lemmas.List.{append-nil}
@@ -23,7 +24,8 @@ use Rattle.free_groupoid.proofs.ClosedWords.{core_letters, loop_collapsed, empty
 use Rattle.free_groupoid.proofs.RootPaths.{CarriesLoops, carries_loops}
 
 -- the inverse of an outer label is one
-pub outer_back : (triples : List (List ℤ)) (l : Laws triples) (r : ℕ) (x : ℤ) → IsOuter triples r x → IsOuter triples r (inverse x)
+pub outer_back : (triples : List (List ℤ)) (l : Laws triples) (r : ℕ) (x : ℤ) → IsOuter triples r x
+    → IsOuter triples r (inverse x)
 outer_back triples l r x h = record {
   label = l.known.labels.label triples x h.label;
   outside = ap (is_tree_edge triples) (l.known.labels.edge x) ∙ h.outside;
@@ -50,9 +52,11 @@ module _ (triples : List (List ℤ)) (l : Laws triples) (f : ℤ → List ℤ) (
       let outer : IsOuter triples r (pos e) = edge_at_outer triples r e h in
       let closed : IsWalk triples r w r = loop_closed triples l (pos e) r outer.label outer.root in
       let (q, carries) = kept-carries l.known f w m.odd
-      (All-contains (IsKept f) (test_walks triples) (loop_walk triples e) kept (loop_tested triples e (edge_at_edge triples r e h))) in
+      (All-contains (IsKept f) (test_walks triples) (loop_walk triples e) kept
+      (loop_tested triples e (edge_at_edge triples r e h))) in
       let not_empty : cyclic_reduce w ≡ [] → ⊥ = λ none.
-      (let nothing : pos e ∷ [] ≡ [] = sym (ap reduce (loop_collapsed triples l r e outer)) ∙ empty_core triples l r w none in cc) in
+      (let nothing : pos e ∷ [] ≡ [] = sym (ap reduce (loop_collapsed triples l r e outer)) ∙ empty_core triples l r w
+      none in cc) in
       one_component triples l r (root_of triples (f0 r)) (cyclic_reduce w) (cyclic_reduce (flat_map f w))
       (carries-rotation l.known q w (flat_map f w) carries) not_empty
       (core_letters triples l r r r w own closed)
@@ -63,34 +67,43 @@ module _ (triples : List (List ℤ)) (l : Laws triples) (f : ℤ → List ℤ) (
   abbrev spread_to : List ℤ → List ℤ
   spread_to h = flat_map (loop triples) h ++ tree_walk triples (f0 r)
 
-  spread_collapsed : (h : List ℤ) → f0 r < length triples → All (IsOuter triples r) h → flat_map (collapse triples r) (spread_to h) ≡ h
+  spread_collapsed : (h : List ℤ) → f0 r < length triples → All (IsOuter triples r) h
+      → flat_map (collapse triples r) (spread_to h) ≡ h
   spread_collapsed h below outer =
       flat_map-append (collapse triples r) (flat_map (loop triples) h) (tree_walk triples (f0 r))
-      ∙ ap (λ (z : List ℤ). z ++ flat_map (collapse triples r) (tree_walk triples (f0 r))) (collapse-loops triples l r h outer)
-      ∙ ap (λ (z : List ℤ). h ++ z) (collapse-trees triples l.forest r (tree_walk triples (f0 r)) (l.forest.letters (f0 r) below))
+      ∙ ap (λ (z : List ℤ). z ++ flat_map (collapse triples r) (tree_walk triples (f0 r)))
+      (collapse-loops triples l r h outer)
+      ∙ ap (λ (z : List ℤ). h ++ z)
+      (collapse-trees triples l.forest r (tree_walk triples (f0 r)) (l.forest.letters (f0 r) below))
       ∙ append-nil h
 
   -- a word of outer letters that carries each outer letter to its collapsed image gives the walk at the root
   pub spread_carries : (h : List ℤ) → f0 r < length triples → root_of triples (f0 r) ≡ r → All (IsOuter triples r) h
-      → ((e : ℕ) → Contains (edges_at triples r (outer_edges triples)) e → Carries h (pos e ∷ []) (collapsed_image triples f r e))
+      → ((e : ℕ) → Contains (edges_at triples r (outer_edges triples)) e → Carries h (pos e ∷ [])
+      (collapsed_image triples f r e))
       → CarriesLoops triples f f0 r (spread_to h)
   spread_carries h below stays outer carries = carries_loops triples l f f0 m r (spread_to h) walk equation
     where
       walk : IsWalk triples r (spread_to h) (f0 r)
       walk =
-          l.walks.join r r (f0 r) (flat_map (loop triples) h) (tree_walk triples (f0 r)) (loops_closed triples l r h outer)
+          l.walks.join r r (f0 r) (flat_map (loop triples) h) (tree_walk triples (f0 r))
+          (loops_closed triples l r h outer)
           (subst (λ (i : ℕ). IsWalk triples i (tree_walk triples (f0 r)) (f0 r)) stays (l.forest.walk (f0 r) below))
 
-      equation : (e : ℕ) → IsOuter triples r (pos e) → reduce (spread_to h ++ flat_map f (loop triples (pos e))) ≡ reduce (loop triples (pos e) ++ spread_to h)
+      equation : (e : ℕ) → IsOuter triples r (pos e)
+          → reduce (spread_to h ++ flat_map f (loop triples (pos e))) ≡ reduce (loop triples (pos e) ++ spread_to h)
       equation e out =
           let w : List ℤ = loop triples (pos e) in
           let closed : IsWalk triples r w r = loop_closed triples l (pos e) r out.label out.root in
           collapse_injective triples l r r (f0 r) (spread_to h ++ flat_map f w) (w ++ spread_to h) own
-          (l.walks.join r (f0 r) (f0 r) (spread_to h) (flat_map f w) walk (l.known.maps.walks.walks triples triples f f0 r r w l.triangulation m closed))
+          (l.walks.join r (f0 r) (f0 r) (spread_to h) (flat_map f w) walk
+          (l.known.maps.walks.walks triples triples f f0 r r w l.triangulation m closed))
           (l.walks.join r r (f0 r) w (spread_to h) closed walk)
           (ap reduce (flat_map-append (collapse triples r) (spread_to h) (flat_map f w))
-          ∙ ap (λ (z : List ℤ). reduce (z ++ flat_map (collapse triples r) (flat_map f w))) (spread_collapsed h below outer)
-          ∙ l.known.words.reduction.right h (flat_map (collapse triples r) (flat_map f w)) (collapsed_image triples f r e)
+          ∙ ap (λ (z : List ℤ). reduce (z ++ flat_map (collapse triples r) (flat_map f w)))
+          (spread_collapsed h below outer)
+          ∙ l.known.words.reduction.right h (flat_map (collapse triples r) (flat_map f w))
+          (collapsed_image triples f r e)
           (sym (l.known.words.reduction.twice (flat_map (collapse triples r) (flat_map f w))))
           ∙ sym (carries e (outer_edge_at triples l.forest r (pos e) out))
           ∙ ap reduce

@@ -19,6 +19,7 @@ first_there (x ∷ t) h = (x, member_here x t)
 pub side_of_triangle : (triples : List (List ℤ)) → Glued triples → (n : ℕ) → n < length triples → SideOf triples n
 side_of_triangle triples glue n below =
     let (x, there) =
-    first_there (slice_index_or triples n []) (All-get_or (λ t. length t ≡ 3) triples n [] below glue.triangulation.three_sides) in
+    first_there (slice_index_or triples n [])
+    (All-get_or (λ t. length t ≡ 3) triples n [] below glue.triangulation.three_sides) in
     let found = glue.triangles.listed n x below there in
     record { side = x; label = found.0; at = found.1 }

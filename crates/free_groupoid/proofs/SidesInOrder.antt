@@ -5,7 +5,8 @@ use Rattle.std.proofs.lemmas.Bool.{eq-eqb, eqb-true}
 use Rattle.ideal_tri.specs.Labels.{edge_of}
 use Rattle.ideal_tri.specs.Triangulations.{IsLabel, edge_count, triangle_of}
 use Rattle.free_groupoid.specs.TestWalks.{label_order, sides_in_order}
-use Rattle.free_groupoid.proofs.Members.{member_here, member_later, member_cases, no_member, member_filter, filter_member, member_range, range_member, member_flat_map, flat_map_member}
+use Rattle.free_groupoid.proofs.Members.{member_here, member_later, member_cases, no_member, member_filter}
+use Rattle.free_groupoid.proofs.Members.{filter_member, member_range, range_member, member_flat_map, flat_map_member}
 
 abbrev both_labels : ℕ → List ℤ
 both_labels e = pos e ∷ (negsuc e ∷ [])
@@ -36,11 +37,14 @@ in_order_label triples x h =
     let below : e < edge_count triples = omega (arith, (range_member 0 (edge_count triples) e within).1) in
     subst (λ (i : ℕ). i < edge_count triples) (sym (edge_of_both e x at)) below
 
-pub side_in_order : (triples : List (List ℤ)) (t : ℕ) (x : ℤ) → IsLabel triples x → triangle_of triples x ≡ t → Contains (sides_in_order triples t) x
+pub side_in_order : (triples : List (List ℤ)) (t : ℕ) (x : ℤ) → IsLabel triples x → triangle_of triples x ≡ t
+    → Contains (sides_in_order triples t) x
 side_in_order triples t x label at =
-    member_filter (λ y. nat_eq (triangle_of triples y) t) (label_order triples) x (label_in_order triples x label) (eq-eqb (triangle_of triples x) t at)
+    member_filter (λ y. nat_eq (triangle_of triples y) t) (label_order triples) x (label_in_order triples x label)
+    (eq-eqb (triangle_of triples x) t at)
 
-pub in_order_side : (triples : List (List ℤ)) (t : ℕ) (x : ℤ) → Contains (sides_in_order triples t) x → IsLabel triples x × (triangle_of triples x ≡ t)
+pub in_order_side : (triples : List (List ℤ)) (t : ℕ) (x : ℤ) → Contains (sides_in_order triples t) x
+    → IsLabel triples x × (triangle_of triples x ≡ t)
 in_order_side triples t x h =
     let kept = filter_member (λ y. nat_eq (triangle_of triples y) t) (label_order triples) x h in
     (in_order_label triples x kept.0, eqb-true (triangle_of triples x) t kept.1)

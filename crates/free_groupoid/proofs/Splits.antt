@@ -1,5 +1,6 @@
 -- A word split where its letters stop being of one edge: from its front on, and from its end back.
-use Rattle.std.proofs.Common.{ℕ, ℤ, Bool, List, [], ◌∷◌, ◌++◌, ◌≡◌, ◌≢◌, ◌⊎◌, ◌+◌, inl, inr, refl, sym, ◌∙◌, ap, nat_eq, cond, take, subst}
+use Rattle.std.proofs.Common.{ℕ, ℤ, Bool, List, [], ◌∷◌, ◌++◌, ◌≡◌, ◌≢◌, ◌⊎◌, ◌+◌, inl, inr, refl, sym, ◌∙◌, ap, nat_eq}
+use Rattle.std.proofs.Common.{cond, take, subst}
 use Rattle.std.specs.List.{take_while, prefix_len}
 use Rattle.std.proofs.Math.Numerals.{one-add}
 use Rattle.std.proofs.lemmas.Bool.{cases_eq, eq-eqb, ne_eqb}
@@ -40,7 +41,9 @@ front_split x (y ∷ w) =
           (let split = front_split x w in
           record {
             rest = split.rest;
-            parts = ap (λ (z : List ℤ). y ∷ z) split.parts ∙ ap (λ (z : List ℤ). z ++ split.rest) (sym (front-more x y w e));
+            parts =
+                ap (λ (z : List ℤ). y ∷ z) split.parts ∙ ap (λ (z : List ℤ). z ++ split.rest)
+                (sym (front-more x y w e));
             only = subst (Only x) (sym (front-more x y w e)) (Only-cons x y (front x w) e split.only);
             apart = split.apart;
           })

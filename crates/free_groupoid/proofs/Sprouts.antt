@@ -20,7 +20,8 @@ pub record IsOpen (triples : List (List ℤ)) (nodes : List Node) (n : Node) (x 
 abbrev pub sprouted : List (List ℤ) → List Node → Node → ℤ → List Node
 sprouted triples nodes n x = nodes ++ (node_beyond triples n x ∷ [])
 
-module _ (triples : List (List ℤ)) (glue : Glued triples) (nodes : List Node) (f : IsForest triples nodes) (n : Node) (x : ℤ)
+module _ (triples : List (List ℤ)) (glue : Glued triples) (nodes : List Node) (f : IsForest triples nodes) (n : Node)
+    (x : ℤ)
     (open_side : IsOpen triples nodes n x) where
   -- the side after x inverse
   abbrev fresh : ℤ
@@ -73,7 +74,8 @@ module _ (triples : List (List ℤ)) (glue : Glued triples) (nodes : List Node) 
             | inl same ↦
                 not_reached nodes n (triangle_of triples (inverse x)) open_side.new open_side.there
                 (sym open_side.at ∙ ap (triangle_of triples) (sym same) ∙ fresh_at)
-            | inr turned ↦ (glue.triangles.moves (inverse x) (glue.known.labels.label triples x open_side.label)).0 turned
+            | inr turned ↦
+                (glue.triangles.moves (inverse x) (glue.known.labels.label triples x open_side.label)).0 turned
           ]
 
   -- a free label, or the one in its place where it was x
@@ -87,16 +89,20 @@ module _ (triples : List (List ℤ)) (glue : Glued triples) (nodes : List Node) 
       elim (glue.known.labels.same_or_not a x) [
         | inr ne ↦ record { label = a; free = stays_free r a h ne; how = inl refl }
         | inl e ↦
-            (let same : h.node ≡ n = f.one h.node n h.there open_side.there (h.at ∙ ap (triangle_of triples) e ∙ open_side.at) in
+            (let same : h.node ≡ n = f.one h.node n h.there open_side.there
+            (h.at ∙ ap (triangle_of triples) e ∙ open_side.at) in
             record {
               label = fresh;
-              free = subst (λ (i : ℕ). IsFree triples (sprouted triples nodes n x) i fresh) (ap (λ (m : Node). m.root) (sym same) ∙ h.root) fresh_free;
+              free =
+                  subst (λ (i : ℕ). IsFree triples (sprouted triples nodes n x) i fresh)
+                  (ap (λ (m : Node). m.root) (sym same) ∙ h.root) fresh_free;
               how = inr (refl, e);
             })
       ]
 
   fresh_other : (r : ℕ) (a : ℤ) → IsFree triples nodes r a → a ≢ fresh
-  fresh_other r a h e = free_reached triples nodes r a (inverse x) h open_side.new (ap (triangle_of triples) e ∙ fresh_at)
+  fresh_other r a h e =
+      free_reached triples nodes r a (inverse x) h open_side.new (ap (triangle_of triples) e ∙ fresh_at)
 
   apart : (r : ℕ) (a b : ℤ) → IsFree triples nodes r a → IsFree triples nodes r b → a ≢ b
       → (p : Replaced r a) (q : Replaced r b) → p.label ≢ q.label

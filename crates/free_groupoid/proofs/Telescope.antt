@@ -43,9 +43,11 @@ module _ (triples : List (List ℤ)) (l : Laws triples) where
         (by_name l.known (tree_walk triples s ∷ []) [] (-0 ∷ +0 ∷ []) refl)
     telescope s t (x ∷ w) root h =
         by_fact l.known names (+1 ∷ +6 ∷ []) (-0 ∷ +3 ∷ +2 ∷ +6 ∷ []) [] (+1 ∷ []) (-0 ∷ +3 ∷ +2 ∷ []) (+6 ∷ []) refl
-        (subst (λ (i : ℕ). reduce (x ∷ []) ≡ reduce (inverse_word (tree_walk triples i) ++ (flat_map (loop triples) (collapse triples r x) ++ between))) h.1
+        (subst (λ (i : ℕ). reduce (x ∷ []) ≡ reduce
+        (inverse_word (tree_walk triples i) ++ (flat_map (loop triples) (collapse triples r x) ++ between))) h.1
         (telescope_letter triples l r x h.0 here)) refl
-        ∙ by_fact l.known names (-0 ∷ +3 ∷ +2 ∷ +6 ∷ []) (-0 ∷ +3 ∷ +4 ∷ +5 ∷ []) (-0 ∷ +3 ∷ +2 ∷ []) (+6 ∷ []) (-2 ∷ +4 ∷ +5 ∷ []) [] refl
+        ∙ by_fact l.known names (-0 ∷ +3 ∷ +2 ∷ +6 ∷ []) (-0 ∷ +3 ∷ +4 ∷ +5 ∷ []) (-0 ∷ +3 ∷ +2 ∷ []) (+6 ∷ [])
+        (-2 ∷ +4 ∷ +5 ∷ []) [] refl
         (telescope (triangle_of triples (inverse x)) t w (l.forest.component x h.0 ∙ here) h.2) refl
         ∙ ap (λ (z : List ℤ). reduce (inverse_word (tree_walk triples s) ++ z))
         (sym (append_assoc (flat_map (loop triples) (collapse triples r x)) (spread w) (tree_walk triples t))
@@ -60,14 +62,18 @@ module _ (triples : List (List ℤ)) (l : Laws triples) where
 
         names : List (List ℤ)
         names =
-            tree_walk triples s ∷ (x ∷ []) ∷ between ∷ flat_map (loop triples) (collapse triples r x) ∷ spread w ∷ tree_walk triples t ∷ w ∷ []
+            tree_walk triples s ∷ (x ∷ []) ∷ between ∷ flat_map (loop triples) (collapse triples r x) ∷ spread w ∷
+            tree_walk triples t ∷ w ∷ []
 
     -- walks with the same ends that collapse alike
-    pub collapse_injective : (s t : ℕ) (u v : List ℤ) → root_of triples s ≡ r → IsWalk triples s u t → IsWalk triples s v t
+    pub collapse_injective : (s t : ℕ) (u v : List ℤ) → root_of triples s ≡ r → IsWalk triples s u t
+        → IsWalk triples s v t
         → reduce (flat_map (collapse triples r) u) ≡ reduce (flat_map (collapse triples r) v) → reduce u ≡ reduce v
     collapse_injective s t u v root of_u of_v e =
         telescope s t u root of_u
-        ∙ l.known.words.reduction.right (inverse_word (tree_walk triples s)) (spread u ++ tree_walk triples t) (spread v ++ tree_walk triples t)
+        ∙ l.known.words.reduction.right (inverse_word (tree_walk triples s)) (spread u ++ tree_walk triples t)
+        (spread v ++ tree_walk triples t)
         (l.known.words.reduction.left (spread u) (spread v) (tree_walk triples t)
-        (flat_map-respects l.known (loop triples) (flat_map (collapse triples r) u) (flat_map (collapse triples r) v) (loop-odd l.known triples) e))
+        (flat_map-respects l.known (loop triples) (flat_map (collapse triples r) u) (flat_map (collapse triples r) v)
+        (loop-odd l.known triples) e))
         ∙ sym (telescope s t v root of_v)

@@ -2,13 +2,16 @@
 use Rattle.std.proofs.Common.{ℕ, ℤ, pos, List, [], ◌∷◌, ◌++◌, ◌≡◌, ◌≢◌, ◌⊎◌, inl, inr, sym, ◌∙◌, ap, subst, map, nat_eq}
 use Rattle.std.specs.List.{All, Contains}
 use Rattle.std.proofs.lemmas.Bool.{eq-eqb, eqb-true}
-use Rattle.std.proofs.lemmas.List.Elements.{All-nil, All-append, All-map, All-weaker, All-contains_itself, Contains-append_left, Contains-append_right}
+use Rattle.std.proofs.lemmas.List.Elements.{All-nil, All-append, All-map, All-weaker, All-contains_itself}
+use Rattle.std.proofs.lemmas.List.Elements.{Contains-append_left, Contains-append_right}
 use Rattle.ideal_tri.specs.Words.{cyclic_reduce}
 use Rattle.free_groupoid.specs.TestWalks.{loop, outer_edges, root_of_edge, edges_at, products, test_walks}
-use Rattle.free_groupoid.proofs.Members.{member_here, member_later, member_cases, no_member, member_filter, filter_member}
+use Rattle.free_groupoid.proofs.Members.{member_here, member_later, member_cases, no_member, member_filter}
+use Rattle.free_groupoid.proofs.Members.{filter_member}
 
 -- what holds of each value of a function at members of a list
-each_image : {X Y : Type 0} → (P : Y → Type 0) (f : X → Y) (xs : List X) → ((x : X) → Contains xs x → P (f x)) → All P (map f xs)
+each_image : {X Y : Type 0} → (P : Y → Type 0) (f : X → Y) (xs : List X) → ((x : X) → Contains xs x → P (f x))
+    → All P (map f xs)
 each_image P f xs h = All-map P f xs (All-weaker (Contains xs) (λ x. P (f x)) h xs (All-contains_itself xs))
 
 member_map : {X Y : Type 0} → (f : X → Y) (xs : List X) (x : X) → Contains xs x → Contains (map f xs) (f x)
@@ -30,18 +33,21 @@ module _ (triples : List (List ℤ)) where
   -- ---- what holds of all
 
   each_product : (P : List ℤ → Type 0) (edges : List ℕ)
-      → ((i j : ℕ) → Contains edges i → Contains edges j → root_of_edge triples j ≡ root_of_edge triples i → P (product_walk i j))
+      → ((i j : ℕ) → Contains edges i → Contains edges j → root_of_edge triples j ≡ root_of_edge triples i → P
+      (product_walk i j))
       → All P (products triples edges)
   each_product P [] h = All-nil P
   each_product P (i ∷ edges) h =
       All-append P (map (product_walk i) (edges_at triples (root_of_edge triples i) edges)) (products triples edges)
       (each_image P (product_walk i) (edges_at triples (root_of_edge triples i) edges)
       (λ j k. let kept = filter_member (λ e. nat_eq (root_of_edge triples e) (root_of_edge triples i)) edges j k in
-      h i j (member_here i edges) (member_later i edges j kept.0) (eqb-true (root_of_edge triples j) (root_of_edge triples i) kept.1)))
+      h i j (member_here i edges) (member_later i edges j kept.0)
+      (eqb-true (root_of_edge triples j) (root_of_edge triples i) kept.1)))
       (each_product P edges (λ a b k m e. h a b (member_later i edges a k) (member_later i edges b m) e))
 
   pub each_test : (P : List ℤ → Type 0) → ((e : ℕ) → Contains (outer_edges triples) e → P (loop_walk e))
-      → ((i j : ℕ) → Contains (outer_edges triples) i → Contains (outer_edges triples) j → root_of_edge triples j ≡ root_of_edge triples i
+      → ((i j : ℕ) → Contains (outer_edges triples) i → Contains (outer_edges triples) j → root_of_edge triples j
+      ≡ root_of_edge triples i
       → P (product_walk i j))
       → All P (test_walks triples)
   unfolding test_walks
@@ -64,19 +70,24 @@ module _ (triples : List (List ℤ)) where
   first_product : (i : ℕ) (edges : List ℕ) (j : ℕ) → Contains edges j → root_of_edge triples j ≡ root_of_edge triples i
       → Contains (products triples (i ∷ edges)) (product_walk i j)
   first_product i edges j h e =
-      Contains-append_left (map (product_walk i) (edges_at triples (root_of_edge triples i) edges)) (products triples edges) (product_walk i j)
+      Contains-append_left (map (product_walk i) (edges_at triples (root_of_edge triples i) edges))
+      (products triples edges) (product_walk i j)
       (member_map (product_walk i) (edges_at triples (root_of_edge triples i) edges) j
       (member_filter (λ a. nat_eq (root_of_edge triples a) (root_of_edge triples i)) edges j h
       (eq-eqb (root_of_edge triples j) (root_of_edge triples i) e)))
 
-  later_product : (a : ℕ) (edges : List ℕ) (v : List ℤ) → Contains (products triples edges) v → Contains (products triples (a ∷ edges)) v
+  later_product : (a : ℕ) (edges : List ℕ) (v : List ℤ) → Contains (products triples edges) v
+      → Contains (products triples (a ∷ edges)) v
   later_product a edges v h =
-      Contains-append_right (map (product_walk a) (edges_at triples (root_of_edge triples a) edges)) (products triples edges) v h
+      Contains-append_right (map (product_walk a) (edges_at triples (root_of_edge triples a) edges))
+      (products triples edges) v h
 
-  product_listed : (edges : List ℕ) (i j : ℕ) → i ≢ j → root_of_edge triples i ≡ root_of_edge triples j → Contains edges i → Contains edges j
+  product_listed : (edges : List ℕ) (i j : ℕ) → i ≢ j → root_of_edge triples i ≡ root_of_edge triples j
+      → Contains edges i → Contains edges j
       → OneProduct (products triples edges) i j
   product_listed [] i j ne e h k = absurd (no_member i h)
-  product_listed (a ∷ edges) i j ne e h k = go (product_listed edges i j ne e) (member_cases a edges i h) (member_cases a edges j k)
+  product_listed (a ∷ edges) i j ne e h k =
+      go (product_listed edges i j ne e) (member_cases a edges i h) (member_cases a edges j k)
     where
       go : (Contains edges i → Contains edges j → OneProduct (products triples edges) i j)
           → (a ≡ i) ⊎ Contains edges i → (a ≡ j) ⊎ Contains edges j → OneProduct (products triples (a ∷ edges)) i j
@@ -93,13 +104,16 @@ module _ (triples : List (List ℤ)) where
             | inr there ↦ inr (later_product a edges (product_walk j i) there)
           ]
 
-  pub product_tested : (i j : ℕ) → i ≢ j → root_of_edge triples i ≡ root_of_edge triples j → Contains (outer_edges triples) i
+  pub product_tested : (i j : ℕ) → i ≢ j → root_of_edge triples i ≡ root_of_edge triples j
+      → Contains (outer_edges triples) i
       → Contains (outer_edges triples) j → OneProduct (test_walks triples) i j
   unfolding test_walks
   product_tested i j ne e h k =
       elim (product_listed (outer_edges triples) i j ne e h k) [
         | inl there ↦
-            inl (Contains-append_right (map loop_walk (outer_edges triples)) (products triples (outer_edges triples)) (product_walk i j) there)
+            inl (Contains-append_right (map loop_walk (outer_edges triples)) (products triples (outer_edges triples))
+            (product_walk i j) there)
         | inr there ↦
-            inr (Contains-append_right (map loop_walk (outer_edges triples)) (products triples (outer_edges triples)) (product_walk j i) there)
+            inr (Contains-append_right (map loop_walk (outer_edges triples)) (products triples (outer_edges triples))
+            (product_walk j i) there)
       ]

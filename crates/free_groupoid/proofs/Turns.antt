@@ -1,9 +1,11 @@
 -- One node's turn: afterwards each side of its triangle leads to a node of the same tree.
 --
 -- A side whose other triangle is new gets a node there. Where the triangle has a node already, that node is of the same
--- tree: if it waits, because all waiting nodes are; if it had its turn, because its own sides lead to nodes of its tree,
+-- tree: if it waits, because all waiting nodes are; if it had its turn, because its own sides lead to nodes of its
+-- tree,
 -- one of them to the triangle of the node whose turn it is, and no two nodes are at one triangle.
-use Rattle.std.proofs.Common.{ℕ, ℤ, true, List, ◌∷◌, ◌++◌, ◌≡◌, ◌<◌, ◌≤◌, ◌+◌, ◌⊎◌, inl, inr, sym, ◌∙◌, ap, subst, length}
+use Rattle.std.proofs.Common.{ℕ, ℤ, true, List, ◌∷◌, ◌++◌, ◌≡◌, ◌<◌, ◌≤◌, ◌+◌, ◌⊎◌, inl, inr, sym, ◌∙◌, ap, subst}
+use Rattle.std.proofs.Common.{length}
 use Rattle.std.specs.List.{Contains}
 use Rattle.std.proofs.lemmas.List.Elements.{Contains-append_left, Contains-append_cases}
 use Rattle.ideal_tri.specs.Labels.{inverse}
@@ -35,12 +37,14 @@ pub record IsGrowing (triples : List (List ℤ)) (r bound : ℕ) (done todo : Li
   pub few : missing (length triples) (done ++ todo) + length todo ≤ bound
 
 -- the node n has its turn, and of its sides these are still to be tried
-pub record IsTurning (triples : List (List ℤ)) (r bound : ℕ) (n : Node) (done todo : List Node) (sides : List ℤ) : Type 0 where
+pub record IsTurning (triples : List (List ℤ)) (r bound : ℕ) (n : Node) (done todo : List Node) (sides : List ℤ) : Type
+    0 where
   pub forest : IsForest triples (done ++ todo)
   pub here : Contains done n
   pub mine : n.root ≡ r
   pub closed : (m : Node) → Contains done m → (m ≡ n) ⊎ IsClosed triples (done ++ todo) m
-  pub tried : (x : ℤ) → IsLabel triples x → triangle_of triples x ≡ n.triangle → Contains sides x ⊎ IsBeyond triples (done ++ todo) n x
+  pub tried : (x : ℤ) → IsLabel triples x → triangle_of triples x ≡ n.triangle
+      → Contains sides x ⊎ IsBeyond triples (done ++ todo) n x
   pub left : (x : ℤ) → Contains sides x → IsLabel triples x × (triangle_of triples x ≡ n.triangle)
   pub waiting : (m : Node) → Contains todo m → m.root ≡ r
   pub below : (t : ℕ) → t < r → has_node (done ++ todo) t ≡ true
@@ -48,13 +52,17 @@ pub record IsTurning (triples : List (List ℤ)) (r bound : ℕ) (n : Node) (don
   pub few : missing (length triples) (done ++ todo) + length todo ≤ bound
 
 -- what is beyond stays there where nodes are added
-pub beyond_more : (triples : List (List ℤ)) (nodes more : List Node) (n : Node) (x : ℤ) → ((m : Node) → Contains nodes m → Contains more m)
+pub beyond_more : (triples : List (List ℤ)) (nodes more : List Node) (n : Node) (x : ℤ)
+    → ((m : Node) → Contains nodes m → Contains more m)
     → IsBeyond triples nodes n x → IsBeyond triples more n x
-beyond_more triples nodes more n x into b = record { node = b.node; there = into b.node b.there; at = b.at; root = b.root }
+beyond_more triples nodes more n x into b =
+    record { node = b.node; there = into b.node b.there; at = b.at; root = b.root }
 
-pub closed_more : (triples : List (List ℤ)) (nodes more : List Node) (n : Node) → ((m : Node) → Contains nodes m → Contains more m)
+pub closed_more : (triples : List (List ℤ)) (nodes more : List Node) (n : Node)
+    → ((m : Node) → Contains nodes m → Contains more m)
     → IsClosed triples nodes n → IsClosed triples more n
-closed_more triples nodes more n into c = record { beyond = λ x label at. beyond_more triples nodes more n x into (c.beyond x label at) }
+closed_more triples nodes more n into c =
+    record { beyond = λ x label at. beyond_more triples nodes more n x into (c.beyond x label at) }
 
 module _ (triples : List (List ℤ)) (glue : Glued triples) (r bound : ℕ) (n : Node) (done : List Node) where
   -- ---- a side whose other triangle is reached
@@ -76,7 +84,8 @@ module _ (triples : List (List ℤ)) (glue : Glued triples) (r bound : ℕ) (n :
           (g.forest.one b.node n b.there (Contains-append_left done todo n g.here)
           (b.at ∙ ap (triangle_of triples) (glue.known.labels.twice x) ∙ side.1))
 
-      same_root : (m : Node) → m.triangle ≡ triangle_of triples (inverse x) → Contains done m ⊎ Contains todo m → m.root ≡ n.root
+      same_root : (m : Node) → m.triangle ≡ triangle_of triples (inverse x) → Contains done m ⊎ Contains todo m
+          → m.root ≡ n.root
       same_root m at (inr waits) = g.waiting m waits ∙ sym g.mine
       same_root m at (inl had) =
           elim (g.closed m had) [
@@ -99,7 +108,8 @@ module _ (triples : List (List ℤ)) (glue : Glued triples) (r bound : ℕ) (n :
     few = g.few;
   }
     where
-      go : (y : ℤ) → Contains (x ∷ sides) y ⊎ IsBeyond triples (done ++ todo) n y → Contains sides y ⊎ IsBeyond triples (done ++ todo) n y
+      go : (y : ℤ) → Contains (x ∷ sides) y ⊎ IsBeyond triples (done ++ todo) n y
+          → Contains sides y ⊎ IsBeyond triples (done ++ todo) n y
       go y (inr b) = inr b
       go y (inl k) =
           elim (member_cases x sides y k) [

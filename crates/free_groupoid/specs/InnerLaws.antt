@@ -1,7 +1,8 @@
 -- What holds of the test walks and of inner maps.
 use Rattle.std.specs.Prelude.{◌≡◌, ◌<◌, ◌++◌, ℕ, ℤ, List, [], ◌∷◌, length, All}
 use Rattle.std.specs.List.{flat_map}
-use Rattle.ideal_tri.specs.Words.{inverse_word, reduce, cyclic_reduce, IsRotation, IsCyclicallyReduced}
+use Rattle.ideal_tri.specs.Words.{inverse_word, reduce, cyclic_reduce, IsRotation}
+use Rattle.ideal_tri.specs.Words.{IsCyclicallyReduced}
 use Rattle.ideal_tri.specs.Triangulations.{IsTriangulation, IsLabel, IsWalk, triangle_of}
 use Rattle.tri_atlas.specs.Maps.{IsMap, IsFixed, identity, after}
 use Rattle.free_groupoid.specs.TestWalks.{test_walks}

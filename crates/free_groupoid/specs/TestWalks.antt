@@ -1,5 +1,6 @@
 -- The test walks of a triangulation: the loops of a spanning forest, and their products.
-use Rattle.std.specs.Prelude.{◌++◌, ℕ, zero, suc, ℤ, pos, negsuc, Bool, false, List, [], ◌∷◌, length, map, nat_eq, if◌then◌else◌, not}
+use Rattle.std.specs.Prelude.{◌++◌, ℕ, zero, suc, ℤ, pos, negsuc, Bool, false, List, [], ◌∷◌}
+use Rattle.std.specs.Prelude.{length, map, nat_eq, if◌then◌else◌, not}
 use Rattle.std.specs.List.{flat_map, filter, list_any, range_with_len}
 use Rattle.ideal_tri.specs.Labels.{inverse, edge_of}
 use Rattle.ideal_tri.specs.Words.{inverse_word, last_of, cyclic_reduce}

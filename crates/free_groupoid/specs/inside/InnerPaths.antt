@@ -1,10 +1,12 @@
 -- The walks that make a map inner, computed from the images of the loops of a spanning forest.
-use Rattle.std.specs.Prelude.{◌++◌, ◌+◌, ◌/◌, ℕ, ℤ, pos, Bool, List, [], ◌∷◌, length, drop, nat_lt, nat_eq, if◌then◌else◌, not, ◌&&◌}
+use Rattle.std.specs.Prelude.{◌++◌, ◌+◌, ◌/◌, ℕ, ℤ, pos, Bool, List, [], ◌∷◌, length, drop, nat_lt}
+use Rattle.std.specs.Prelude.{nat_eq, if◌then◌else◌, not, ◌&&◌}
 use Rattle.std.specs.List.{flat_map, take_while}
 use Rattle.ideal_tri.specs.Labels.{edge_of}
 use Rattle.ideal_tri.specs.Words.{inverse_word, reduce}
 use Rattle.ideal_tri.specs.Triangulations.{edge_count}
-use Rattle.free_groupoid.specs.TestWalks.{root_of, tree_walk, is_tree_edge, loop, outer_edges, root_of_edge, edges_at}
+use Rattle.free_groupoid.specs.TestWalks.{root_of, tree_walk, is_tree_edge, loop, outer_edges}
+use Rattle.free_groupoid.specs.TestWalks.{root_of_edge, edges_at}
 
 -- the edge lies outside the forest, in the component of the root r
 abbrev pub is_outer_at : List (List ℤ) → ℕ → ℕ → Bool
