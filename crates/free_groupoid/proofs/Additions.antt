@@ -1,4 +1,10 @@
 -- A forest stays one with a node beyond a side, where the triangle there is new, and with a new root.
+--
+-- Each fact about nodes is shown for the old ones, where it held before, and for the new one. The new node's walk is
+-- that of the node it stands beyond and one step more. Its triangle is new, so no two nodes are at one triangle. Of
+-- the three free labels of a tree, the one that the new step crosses is replaced by a side of the new triangle; a new
+-- root brings its three sides, which are different because the side after a side is another one. The root of a tree
+-- is its least triangle: a node is added where all triangles below the root are reached already.
 use Rattle.std.proofs.Common.{ℕ, ℤ, false, List, [], ◌∷◌, ◌++◌, ◌≡◌, ◌<◌, ◌≤◌, ◌⊎◌, inl, inr, refl, sym, ◌∙◌, ap, subst}
 use Rattle.std.proofs.Common.{arith, length}
 use Rattle.std.specs.List.{Contains}

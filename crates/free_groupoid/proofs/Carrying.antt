@@ -1,10 +1,9 @@
 -- A word q carries a word u to a word v where u q and q v have the same reduction: conjugacy without an inverse.
-use Rattle.std.proofs.Common.{ℤ, List, [], ◌∷◌, ◌++◌, ◌≡◌, refl, sym, ◌∙◌, ap, subst, append_assoc}
+use Rattle.std.proofs.Common.{ℤ, List, [], ◌∷◌, ◌++◌, ◌≡◌, refl, sym, ◌∙◌, ap, append_assoc}
 use Rattle.std.specs.List.{flat_map}
-use Rattle.std.proofs.lemmas.List.{append-nil}
 use Rattle.std.proofs.lemmas.List.Concat.{flat_map-append}
 use Rattle.ideal_tri.specs.Words.{inverse_word, reduce, cyclic_reduce, IsRotation}
-use Rattle.tri_atlas.specs.Maps.{IsOdd, identity}
+use Rattle.tri_atlas.specs.Maps.{IsOdd}
 use Rattle.free_groupoid.specs.Inner.{IsKept}
 use Rattle.free_groupoid.specs.Related.{AreAlikeAt}
 use Rattle.free_groupoid.proofs.Known.{Known}
@@ -37,6 +36,10 @@ module _ (known : Known) where
 
   pub carries_same : (q u v w x : List ℤ) → reduce u ≡ reduce w → reduce v ≡ reduce x → Carries q u v → Carries q w x
   carries_same q u v w x e f h = sym (known.words.reduction.left u w q e) ∙ h ∙ known.words.reduction.right q v x f
+
+  -- the word that carries may be replaced by one with the same reduction
+  pub carries_by : (p q u v : List ℤ) → reduce p ≡ reduce q → Carries p u v → Carries q u v
+  carries_by p q u v e h = sym (known.words.reduction.right u p q e) ∙ h ∙ known.words.reduction.left p q v e
 
   -- ---- rotations
 

@@ -1,22 +1,19 @@
 -- A word that commutes with letters of two different edges is empty, up to reduction.
 --
 -- Where u commutes with y, the words x u y u⁻¹ and x y are conjugate, so u is p w with letters of the edge of x in p
--- and
--- of the edge of y in w. As u and p commute with x, so does w; letters of another edge alone don't, so w is empty. Then
--- u
--- is p and commutes with y, so it is empty too.
+-- and of the edge of y in w. As u and p commute with x, so does w; letters of another edge alone don't, so w is
+-- empty. Then u is p and commutes with y, so it is empty too.
 use Rattle.std.proofs.Common.{ℤ, List, [], ◌∷◌, ◌++◌, ◌≡◌, ◌≢◌, refl, sym, ◌∙◌, ap, subst, append_assoc}
 use Rattle.std.proofs.lemmas.List.{append-nil}
 use Rattle.ideal_tri.specs.Labels.{edge_of}
 use Rattle.ideal_tri.specs.Words.{inverse_word, IsReduced, reduce}
 use Rattle.free_groupoid.proofs.Known.{Known}
 use Rattle.free_groupoid.proofs.Names.{+0, +1, -1, +2, -2, by_fact}
-use Rattle.free_groupoid.proofs.Carrying.{Carries}
+use Rattle.free_groupoid.proofs.Carrying.{Carries, carries_by}
 use Rattle.free_groupoid.proofs.Reduced.{IsReduced-front, IsReduced-back}
 use Rattle.free_groupoid.proofs.Powers.{Only, power_commutes, power_alone}
 use Rattle.free_groupoid.proofs.Splits.{front, front_split}
 use Rattle.free_groupoid.proofs.PowerSplit.{power_split}
-use Rattle.free_groupoid.proofs.Shared.{carries_by}
 
 module _ (known : Known) where
   -- p w and p commute with x, so w does

@@ -1,4 +1,10 @@
 -- Closed walks cyclically reduced: they are closed walks, keep to a component, and test walks are not empty.
+--
+-- The free reduction of a closed walk w is p c p⁻¹ with its cyclic reduction c. It is a walk, so p, c and p⁻¹ are
+-- walks one after another; p and p⁻¹ join the same two triangles, so c is closed. The letters of c are letters of the
+-- reduction, and so of the component where w starts. If c is empty, w is conjugate to the empty word, and so is what
+-- is left of w when the forest is collapsed. The loop of an outer edge collapses to one letter, and the product of
+-- two loops to two letters that are not inverse to each other: neither reduces to nothing, so no test walk is empty.
 use Rattle.std.proofs.Common.{ℕ, ℤ, pos, List, [], ◌∷◌, ◌++◌, ◌≡◌, refl, sym, ◌∙◌, ap, subst}
 use Rattle.std.specs.List.{All, Contains, flat_map}
 use Rattle.std.proofs.lemmas.List.{append-nil}

@@ -1,4 +1,9 @@
 -- The forest collapsed: which letters stay, and what is left of walks along the trees.
+--
+-- The collapse at a root keeps the labels of the outer edges of its component, and forgets all others. It sees the
+-- edge of a letter alone, so it respects inverses. An edge lies in one component: both its labels have triangles with
+-- the same root. So a letter that stays is an outer label of the component; a word of such labels stays as it is; and
+-- a walk along the trees, whose letters are of tree edges, falls away.
 use Rattle.std.proofs.Common.{ℕ, ℤ, Bool, true, false, List, [], ◌∷◌, ◌++◌, ◌≡◌, ◌&&◌, inl, inr, refl, sym, ◌∙◌, ap}
 use Rattle.std.proofs.Common.{subst, nat_eq, nat_lt, not, cond}
 use Rattle.std.specs.List.{All, flat_map}

@@ -1,4 +1,11 @@
 -- The walks computed from the loops of two edges make a map inner where it keeps all test walks.
+--
+-- At a root there are two outer edges at least, since the forest leaves two outside in each component; they come in
+-- rising order, so the first two of the list are different. The collapsed image of the loop of an edge is conjugate
+-- to the letter of the edge, so the letter stands in its middle and the second half conjugates. The word that the two
+-- halves share carries the letter of each outer edge to its image. Its letters are outer, so their loops, and the
+-- walk along the tree to the image of the root, are a walk that carries all loops to their images; and that gives a
+-- walk for each triangle.
 use Rattle.std.proofs.Common.{ℕ, ℤ, pos, List, [], ◌∷◌, ◌≡◌, ◌≢◌, ◌<◌, inl, inr, refl, sym, ◌∙◌, subst, arith, length}
 use Rattle.std.proofs.Common.{◌+◌, ◌/◌}
 use Rattle.std.specs.List.{All, Contains, flat_map}
@@ -13,7 +20,7 @@ use Rattle.free_groupoid.proofs.Members.{member_here, member_later, member_cases
 use Rattle.free_groupoid.proofs.Reduced.{reduce-keeps}
 use Rattle.free_groupoid.proofs.Carrying.{Carries}
 use Rattle.free_groupoid.proofs.Halves.{second_half_carries}
-use Rattle.free_groupoid.proofs.Shared.{shared_keeps}
+use Rattle.free_groupoid.proofs.ThirdLetter.{shared_keeps}
 use Rattle.free_groupoid.proofs.Collapse.{IsOuter, collapsed-outer}
 use Rattle.free_groupoid.proofs.Known.{Laws}
 use Rattle.free_groupoid.proofs.Telescope.{walk_component}

@@ -1,4 +1,11 @@
 -- Where all test walks are kept, one word carries the letters of all outer edges of a component to their images.
+--
+-- A test walk is the cyclic reduction of a loop or of a product of two. If it is kept, some word carries the loop, or
+-- the product, to its image. Collapse the forest: a loop becomes the letter of its edge, a product becomes two
+-- letters, and the conjugating word is collapsed with them. So each outer letter is carried to the collapsed image of
+-- its loop, and any two to the product of their images. The list has the product of two edges in one order only; a
+-- conjugation of y x gives one of x y. With these facts the word shared by the first two letters carries each of
+-- them, and each third letter.
 use Rattle.std.proofs.Common.{ℕ, ℤ, pos, List, [], ◌∷◌, ◌++◌, ◌≡◌, ◌≢◌, ◌⊎◌, inl, inr, refl, sym, ◌∙◌, ap, subst}
 use Rattle.std.proofs.Common.{append_assoc}
 use Rattle.std.specs.List.{All, Contains, flat_map}
@@ -13,7 +20,8 @@ use Rattle.free_groupoid.specs.inside.InnerPaths.{collapse, collapsed_image, sha
 use Rattle.free_groupoid.proofs.Known.{Known}
 use Rattle.free_groupoid.proofs.Names.{+0, +1, +2, -3, +3, +4, by_fact}
 use Rattle.free_groupoid.proofs.Carrying.{Carries, carries_image, carries_same, kept-carries}
-use Rattle.free_groupoid.proofs.Shared.{IsPair, shared_carries_one, shared_carries_other, shared_carries_third}
+use Rattle.free_groupoid.proofs.Shared.{IsPair, shared_carries_one, shared_carries_other}
+use Rattle.free_groupoid.proofs.ThirdLetter.{shared_carries_third}
 use Rattle.free_groupoid.proofs.Collapse.{collapse-odd}
 use Rattle.free_groupoid.proofs.Known.{Laws}
 use Rattle.free_groupoid.proofs.OuterEdges.{edge_at_outer, edge_at_edge}

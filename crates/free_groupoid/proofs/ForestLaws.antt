@@ -1,10 +1,15 @@
 -- The laws of the spanning forest.
+--
+-- They are read from the nodes: each triangle has one, its walk leads there from the root, sides lead to nodes of the
+-- same tree, and steps across tree edges go from node to node. Three labels of each tree are free; an edge has two
+-- labels, so they are of two edges at least, and these are among the outer edges of the component. A walk joins a
+-- triangle to its root, so the least triangle of the component is not above the root; and it lies in the same tree,
+-- whose root is not above it.
 use Rattle.std.proofs.Common.{ℕ, ℤ, pos, negsuc, List, [], ◌∷◌, ◌≡◌, ◌≢◌, ◌<◌, ◌≤◌, inl, inr, refl, sym, ◌∙◌, ap, arith}
 use Rattle.std.proofs.Common.{length, nat_eq, not}
 use Rattle.std.specs.List.{Contains, range_with_len}
 use Rattle.std.proofs.lemmas.Bool.{cases_eq, eq-eqb, not_from_false}
 use Rattle.ideal_tri.specs.Labels.{inverse, edge_of}
-use Rattle.ideal_tri.specs.WordLaws.{ReductionLaws}
 use Rattle.ideal_tri.specs.Words.{inverse_word}
 use Rattle.ideal_tri.specs.Components.{least_triangle}
 use Rattle.ideal_tri.specs.ComponentLaws.{ConnectionLaws}

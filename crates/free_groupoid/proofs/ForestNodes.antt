@@ -1,4 +1,10 @@
 -- The node at a triangle, its walk, and steps across the edges that the forest crosses.
+--
+-- Each triangle is reached, and no two nodes are at one triangle, so the node that is found there is the only one. A
+-- side leads to a node of the same tree, so both triangles of a label have the same root. The letters of a walk are
+-- last letters of walks: of its own, and of those of the nodes that it passes, by induction on the number of letters.
+-- A tree edge is crossed by the last step of some node. Across it in that direction the walks of its triangles differ
+-- by the letter, as lists; in the other direction the letter cancels that step.
 use Rattle.std.proofs.Common.{ℕ, ℤ, zero, suc, Bool, true, List, [], ◌∷◌, ◌++◌, ◌≡◌, ◌<◌, ◌≤◌, ◌||◌, ◌⊎◌, inl, inr}
 use Rattle.std.proofs.Common.{refl, sym, ◌∙◌, ap, subst, append_assoc, arith, length, length-append, nat_eq}
 use Rattle.std.specs.List.{All, Contains}
@@ -7,7 +13,6 @@ use Rattle.std.proofs.lemmas.List.{append-nil}
 use Rattle.std.proofs.lemmas.List.Elements.{All-nil, All-push}
 use Rattle.ideal_tri.specs.Labels.{inverse, edge_of}
 use Rattle.ideal_tri.specs.Words.{reduce}
-use Rattle.ideal_tri.specs.WordLaws.{ReductionLaws}
 use Rattle.ideal_tri.specs.Triangulations.{IsLabel, IsWalk, triangle_of}
 use Rattle.free_groupoid.specs.TestWalks.{Node, root_node, node_at, has_node, ends_across}
 use Rattle.free_groupoid.proofs.Known.{Glued}

@@ -1,11 +1,9 @@
 -- Nodes that make a forest: each is a root or stands beyond a side of another, and no two are at one triangle.
 --
--- Beside that, each tree has three labels at its triangles that it doesn't cross. They are the three sides of the root
--- at
--- first. Where a node is added beyond a side x, the tree crosses x and its inverse from then on; x is replaced by the
--- side
--- after its inverse, which is new. So at the end two edges at least of each component lie outside the forest: three
--- labels are of two edges.
+-- Beside that, each tree has three labels at its triangles that it doesn't cross. They are the three sides of the
+-- root at first. Where a node is added beyond a side x, the tree crosses x and its inverse from then on; x is
+-- replaced by the side after its inverse, which is new. So at the end two edges at least of each component lie
+-- outside the forest: three labels are of two edges.
 use Rattle.std.proofs.Common.{ℕ, ℤ, true, false, List, ◌≡◌, ◌≢◌, ◌<◌, ◌≤◌, ◌⊎◌, inl, inr, sym, ◌∙◌, ap, length, nat_eq}
 use Rattle.std.specs.List.{Contains}
 use Rattle.std.proofs.lemmas.Bool.{eqb-true, false_from_ne_true, false≢true, both_ways}

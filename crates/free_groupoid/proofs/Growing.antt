@@ -1,7 +1,10 @@
 -- A tree that grows until no node waits: then each side of its triangles leads to a node of the same tree.
 --
--- Each turn takes one node from those that wait and adds one for each triangle that is new, so the number of triangles
--- that are missing and of nodes that wait falls by one. It is at most the number of triangles, which is the bound.
+-- A turn tries the sides of one node. A side whose other triangle is new adds a node there, which waits; the facts
+-- about the nodes stay, as the forest stays one and what was beyond stays there. A new triangle is not below the root
+-- of the tree, since those are reached already. After the turn the node's sides are closed: each leads to a node of
+-- its tree. The number of triangles that are missing and of nodes that wait has not risen, apart from the node whose
+-- turn it was.
 use Rattle.std.proofs.Common.{ℕ, ℤ, true, false, List, [], ◌∷◌, ◌++◌, ◌≡◌, ◌≤◌, ◌⊎◌, inl, inr, refl, sym, ◌∙◌, ap}
 use Rattle.std.proofs.Common.{subst, append_assoc, arith, length, length-append}
 use Rattle.std.specs.List.{Contains}

@@ -1,8 +1,7 @@
 -- A reduced word conjugate to a letter has that letter in its middle, and the second half conjugates.
-use Rattle.std.proofs.Common.{ℤ, pos, negsuc, List, [], ◌∷◌, ◌++◌, ◌≡◌, ◌≢◌, ◌+◌, ◌/◌, refl, sym, ◌∙◌, ap, subst}
+use Rattle.std.proofs.Common.{ℤ, List, [], ◌∷◌, ◌++◌, ◌≡◌, ◌+◌, ◌/◌, refl, sym, ◌∙◌, ap, subst}
 use Rattle.std.proofs.Common.{append_assoc, arith, length, drop, length-append}
 use Rattle.std.proofs.lemmas.List.{append-nil, drop_at}
-use Rattle.ideal_tri.specs.Labels.{inverse}
 use Rattle.ideal_tri.specs.Words.{inverse_word, IsReduced, reduce, cyclic_reduce, IsRotation}
 use Rattle.free_groupoid.specs.inside.InnerPaths.{second_half}
 use Rattle.free_groupoid.proofs.Known.{Known}

@@ -1,5 +1,12 @@
 -- Inner maps compose, have inner inverses, stay inner where they are carried along a map, and fix closed walks up to
 -- rotation.
+--
+-- The equation at letters extends to walks: p f(w) and w q have the same reduction, with the walks p and q of the two
+-- ends of w. For f and then g the walk of f and that of g at the image, one after the other, serve: g is inner along
+-- f(x). If g undoes f, apply g to the equation of f and solve for g(x). Along a map h with k before it, where h
+-- undoes k, apply h to the equation along k(x). For a closed walk the equation says that p carries it to its image,
+-- so their cyclic reductions are rotations of each other; and a list of closed words has the same curves as its
+-- images, word by word.
 use Rattle.std.proofs.Common.{ℕ, ℤ, Bool, true, false, List, [], ◌∷◌, ◌++◌, ◌≡◌, ◌<◌, ◌+◌, inl, refl, sym, ◌∙◌, ap}
 use Rattle.std.proofs.Common.{subst, append_assoc, length, cond}
 use Rattle.std.specs.List.{All, flat_map, count_by}
@@ -10,7 +17,7 @@ use Rattle.std.proofs.lemmas.List.Sums.{sum_by-cons}
 use Rattle.ideal_tri.specs.Labels.{inverse}
 use Rattle.ideal_tri.specs.Words.{inverse_word, reduce, cyclic_reduce, IsRotation, IsCyclicallyReduced}
 use Rattle.ideal_tri.specs.Curves.{IsSameCurve, is_same_curve}
-use Rattle.ideal_tri.specs.Triangulations.{IsTriangulation, IsLabel, IsWalk, triangle_of}
+use Rattle.ideal_tri.specs.Triangulations.{IsLabel, IsWalk, triangle_of}
 use Rattle.ideal_tri.specs.SurfaceLaws.{SurfaceLaws, WalkLaws}
 use Rattle.tri_atlas.specs.Maps.{IsMap, identity, after, images_under}
 use Rattle.free_groupoid.specs.Inner.{IsInner}

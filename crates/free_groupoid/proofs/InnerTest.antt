@@ -1,10 +1,16 @@
 -- The inner test: a map is inner exactly where it keeps each test walk, and by one list of reduced walks alone.
+--
+-- An inner map carries each closed walk to its image by a walk, so it keeps the cyclic reduction up to rotation. The
+-- converse is the computed list of walks. Let p and q both make f inner. At a root, p q⁻¹ is a closed walk that
+-- commutes with each loop. Collapsed, it commutes with the letters of two outer edges, so it is empty up to
+-- reduction; and a closed walk that collapses to nothing reduces to nothing. So p and q agree at the root. The
+-- equation along the tree determines the other walks from that of the root.
 use Rattle.std.proofs.Common.{ℕ, ℤ, pos, List, [], ◌∷◌, ◌++◌, ◌≡◌, ◌<◌, refl, sym, ◌∙◌, ap, subst, append_assoc, length}
-use Rattle.std.specs.List.{All, Contains, flat_map}
+use Rattle.std.specs.List.{All, flat_map}
 use Rattle.ideal_tri.specs.Words.{inverse_word, reduce, cyclic_reduce}
 use Rattle.ideal_tri.specs.Triangulations.{IsWalk, IsTriangulation}
 use Rattle.tri_atlas.specs.Maps.{IsMap}
-use Rattle.free_groupoid.specs.TestWalks.{root_of, tree_walk, loop, outer_edges, root_of_edge, test_walks}
+use Rattle.free_groupoid.specs.TestWalks.{root_of, tree_walk, loop, test_walks}
 use Rattle.free_groupoid.specs.Inner.{IsInner, IsKept}
 use Rattle.free_groupoid.specs.InnerLaws.{InnerLaws}
 use Rattle.free_groupoid.specs.inside.InnerPaths.{collapse}
@@ -16,8 +22,7 @@ use Rattle.free_groupoid.proofs.Known.{Laws}
 use Rattle.free_groupoid.proofs.Loops.{loop_closed}
 use Rattle.free_groupoid.proofs.Telescope.{collapse_injective}
 use Rattle.free_groupoid.proofs.InnerMaps.{inner_along, inner_carries}
-use Rattle.free_groupoid.proofs.OuterEdges.{edge_outer, edge_at_outer}
-use Rattle.free_groupoid.proofs.TestLists.{each_test}
+use Rattle.free_groupoid.proofs.OuterEdges.{edge_at_outer}
 use Rattle.free_groupoid.proofs.ClosedWords.{loop_collapsed, each_closed, test_loops}
 use Rattle.free_groupoid.proofs.ComputedPaths.{own_root, root_below, kept_inner}
 

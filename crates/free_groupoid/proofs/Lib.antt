@@ -7,6 +7,7 @@ pub mod Powers
 pub mod Splits
 pub mod PowerSplit
 pub mod Shared
+pub mod ThirdLetter
 pub mod Centraliser
 pub mod Halves
 pub mod Sides

@@ -1,4 +1,9 @@
 -- Elements of lists: of a list with one more in front, of a filtered list, of a range, and those that pass a test.
+--
+-- An element of a list is given by its place. The first place is the head, and the others are places of the tail. So
+-- each fact is an induction on the list: an element that passes a test is found by it and kept by a filter, a filter
+-- has elements that pass, a range from a with n numbers has those from a to below a + n, and the elements of lists
+-- that are joined end to end are those of the parts.
 use Rattle.std.proofs.Common.{ℕ, zero, suc, Bool, true, List, [], ◌∷◌, ◌≡◌, ◌<◌, ◌≤◌, ◌+◌, ◌⊎◌, inl, inr, refl, sym}
 use Rattle.std.proofs.Common.{◌∙◌, ap, subst, arith, ◌-◌}
 use Rattle.std.proofs.lemmas.List.FromFn.{length-range_with_len, get_or-range_with_len}

@@ -1,4 +1,9 @@
 -- Nodes: which triangles they reach, how many triangles they miss, and which edges their walks end across.
+--
+-- To be reached, and to be crossed, are tests over a list of nodes; one more node changes them at its own triangle,
+-- and at the edge of the last step of its walk. The number of triangles below k that no node reaches is a sum over k:
+-- with one more node no term rises, and that of a new triangle falls from one to zero. So the number falls by one at
+-- least, which bounds how often a tree may grow.
 use Rattle.std.proofs.Common.{ℕ, ℤ, zero, suc, Bool, true, false, List, [], ◌∷◌, ◌++◌, ◌≡◌, ◌≢◌, ◌<◌, ◌≤◌, ◌+◌, ◌||◌}
 use Rattle.std.proofs.Common.{inl, inr, refl, ◌∙◌, ap, arith, cond, nat_eq}
 use Rattle.std.specs.List.{Contains, list_any}

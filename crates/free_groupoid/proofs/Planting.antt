@@ -1,4 +1,9 @@
 -- Trees from all triangles in turn: at the end each triangle is reached, and sides lead to nodes of the same tree.
+--
+-- A tree begins with a root that waits. Each turn moves one node from those that wait to those that had their turn,
+-- so the number of missing triangles and of waiting nodes falls by one; it is at most the number of triangles, which
+-- is the bound, so at the end none waits. Then all nodes are closed, and all triangles up to the root are reached.
+-- Going through the triangles in turn, a triangle that is reached is passed, and from one that isn't a tree is grown.
 use Rattle.std.proofs.Common.{ℕ, ℤ, zero, suc, true, false, List, [], ◌∷◌, ◌++◌, ◌≡◌, ◌<◌, ◌+◌, ◌⊎◌, inl, inr, sym, ◌∙◌}
 use Rattle.std.proofs.Common.{ap, subst, append_assoc, arith, length}
 use Rattle.std.specs.List.{Contains, range_with_len}
@@ -6,7 +11,6 @@ use Rattle.std.proofs.Math.Numerals.{add-one}
 use Rattle.std.proofs.lemmas.Bool.{cases_Bool, cond-true, cond-false, cases_eq}
 use Rattle.std.proofs.lemmas.List.{append-nil}
 use Rattle.std.proofs.lemmas.List.Elements.{Contains-append_left, Contains-push, Contains-push_cases}
-use Rattle.ideal_tri.specs.Triangulations.{IsTriangulation}
 use Rattle.free_groupoid.specs.TestWalks.{Node, root_node, has_node, sides_in_order, sprout, grow, plant, forest}
 use Rattle.free_groupoid.proofs.Known.{Glued}
 use Rattle.free_groupoid.proofs.Sides.{side_of_triangle}

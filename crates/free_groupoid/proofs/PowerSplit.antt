@@ -1,12 +1,10 @@
 -- Where x u y u⁻¹ is conjugate to x y, with x and y of different edges, u is letters of the edge of x followed by
--- letters
--- of the edge of y.
+-- letters of the edge of y.
 --
 -- Letters of the edge of x at the front of u, and of the edge of y at its end, commute with x and with y, so they may
--- be
--- taken off. If a word w is left, it begins with another edge than that of x and ends with another than that of y, so
--- x w y w⁻¹ is cyclically reduced. Conjugate words that are cyclically reduced are rotations of each other and have the
--- same length: but x y has two letters, and the other word has more.
+-- be taken off. If a word w is left, it begins with another edge than that of x and ends with another than that of y,
+-- so x w y w⁻¹ is cyclically reduced. Conjugate words that are cyclically reduced are rotations of each other and
+-- have the same length: but x y has two letters, and the other word has more.
 use Rattle.std.proofs.Common.{ℤ, List, [], ◌∷◌, ◌++◌, ◌≡◌, ◌≢◌, inl, inr, refl, sym, ◌∙◌, ap, subst, append_assoc}
 use Rattle.std.proofs.Common.{arith, length, length-append}
 use Rattle.ideal_tri.specs.Labels.{inverse, edge_of}

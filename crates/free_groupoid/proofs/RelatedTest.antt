@@ -1,10 +1,10 @@
 -- Two maps, the first with an inverse, are related exactly where they are alike at each test walk.
-use Rattle.std.proofs.Common.{ℕ, ℤ, pos, List, [], ◌∷◌, ◌++◌, ◌≡◌, ◌<◌, refl, sym, ◌∙◌, subst, length, slice_index_or}
-use Rattle.std.specs.List.{All, Contains, flat_map}
+use Rattle.std.proofs.Common.{ℕ, ℤ, List, [], ◌∷◌, ◌≡◌, ◌<◌, sym, ◌∙◌, subst, length, slice_index_or}
+use Rattle.std.specs.List.{All, flat_map}
 use Rattle.ideal_tri.specs.Words.{reduce, cyclic_reduce, IsRotation}
 use Rattle.ideal_tri.specs.Triangulations.{IsWalk, triangle_of}
 use Rattle.tri_atlas.specs.Maps.{IsMap, after}
-use Rattle.free_groupoid.specs.TestWalks.{root_of_edge, loop, outer_edges, test_walks}
+use Rattle.free_groupoid.specs.TestWalks.{test_walks}
 use Rattle.free_groupoid.specs.Inner.{IsKept}
 use Rattle.free_groupoid.specs.InnerLaws.{IsReducedLoop}
 use Rattle.free_groupoid.specs.Related.{IsRelated, AreAlikeAt}
@@ -13,10 +13,7 @@ use Rattle.free_groupoid.proofs.Names.{flat_map-respects}
 use Rattle.free_groupoid.proofs.Carrying.{Carries, carries_image, carries_same, carries-rotation, rotation-carries}
 use Rattle.free_groupoid.proofs.Carrying.{carries-alike}
 use Rattle.free_groupoid.proofs.Known.{Glued, Laws, glue_of}
-use Rattle.free_groupoid.proofs.Loops.{loop_closed}
 use Rattle.free_groupoid.proofs.Relations.{related_along}
-use Rattle.free_groupoid.proofs.OuterEdges.{edge_outer}
-use Rattle.free_groupoid.proofs.TestLists.{each_test}
 use Rattle.free_groupoid.proofs.ClosedWords.{each_closed, test_loops}
 use Rattle.free_groupoid.proofs.ComputedPaths.{kept_inner}
 use Rattle.free_groupoid.proofs.InnerTest.{same_walks}

@@ -1,5 +1,11 @@
 -- Related maps: the equation along walks, an equivalence, and what a map before or after both does.
-use Rattle.std.proofs.Common.{ℕ, ℤ, List, [], ◌∷◌, ◌++◌, ◌≡◌, refl, sym, ◌∙◌, ap, subst, append_assoc}
+--
+-- The equation p g(x) = f(x) q at letters, up to reduction, extends to walks letter by letter. Maps are related to
+-- themselves by empty walks; backwards by the inverse walks, solving the equation for the other side; and along a
+-- third map by the walks one after the other. A map applied to the equation gives that of the two maps followed by
+-- it; the equation along the images of letters gives that of the two maps after it. A map is inner exactly where it
+-- is related to the identity: the two definitions say the same.
+use Rattle.std.proofs.Common.{ℕ, ℤ, List, [], ◌∷◌, ◌++◌, ◌≡◌, refl, sym, ◌∙◌, ap, append_assoc}
 use Rattle.std.specs.List.{flat_map}
 use Rattle.std.proofs.lemmas.List.{append-nil}
 use Rattle.std.proofs.lemmas.List.Concat.{flat_map-append}

@@ -4,8 +4,7 @@ use Rattle.std.specs.List.{flat_map}
 use Rattle.std.proofs.lemmas.List.Concat.{flat_map-append}
 use Rattle.ideal_tri.specs.Labels.{inverse}
 use Rattle.ideal_tri.specs.Words.{reduce}
-use Rattle.ideal_tri.specs.Triangulations.{IsTriangulation, IsLabel, IsWalk, triangle_of}
-use Rattle.ideal_tri.specs.SurfaceLaws.{WalkLaws}
+use Rattle.ideal_tri.specs.Triangulations.{IsLabel, IsWalk, triangle_of}
 use Rattle.tri_atlas.specs.Maps.{IsMap, after}
 use Rattle.free_groupoid.specs.Inner.{IsInner}
 use Rattle.free_groupoid.specs.Related.{IsRelated}

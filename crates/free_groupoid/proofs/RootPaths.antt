@@ -1,4 +1,10 @@
 -- From a walk at each root that carries the loops to their images to a walk for each triangle.
+--
+-- Let p be a walk from a root to its image with p f(l) = l p, up to reduction, for each loop l there. With the walk τ
+-- along the tree to a triangle t, take the walk τ⁻¹ p f(τ) from t to its image. For a letter x from s to t the loop
+-- is l = τ_s x τ_t⁻¹, and p f(l) = l p between τ_s⁻¹ and f(τ_t) is the equation at x. The loops of the outer edges
+-- are enough: the loop of a tree edge reduces to nothing, and so does its image; and the equation of a loop gives
+-- that of the loop backwards.
 use Rattle.std.proofs.Common.{ℕ, ℤ, pos, negsuc, Bool, true, false, List, [], ◌∷◌, ◌++◌, ◌≡◌, ◌<◌, refl, sym, ◌∙◌, ap}
 use Rattle.std.proofs.Common.{append_assoc, length}
 use Rattle.std.specs.List.{flat_map}

@@ -1,5 +1,11 @@
 -- Where all test walks are kept, each component goes to itself, and a walk at its root carries all loops to their
 -- images.
+--
+-- A test walk has a letter, and its letters lie in its component. The cyclic reduction of its image is a rotation of
+-- it, so it has the same letters; and they lie in the component where the image of the root lies. So that is the same
+-- component. Let h be a word of outer letters that carries each outer letter to its collapsed image. The loops of its
+-- letters, and the walk along the tree to the image of the root, are a walk that collapses to h. It carries a loop to
+-- its image: both sides of the equation are walks with the same ends, and they collapse alike.
 use Rattle.std.proofs.Common.{ℕ, ℤ, pos, List, [], ◌∷◌, ◌++◌, ◌≡◌, ◌<◌, refl, sym, ◌∙◌, ap, subst, length}
 use Rattle.std.specs.List.{All, Contains, flat_map}
 use Rattle.std.proofs.lemmas.List.{append-nil}

@@ -1,4 +1,11 @@
--- A forest with a node added beyond a side, where the triangle there is new.
+-- A forest with a node added beyond a side x, where the triangle there is new: three labels of each tree are still
+-- free.
+--
+-- The new step crosses x and its inverse. A free label but x stays free: it is not the inverse of x, since its
+-- triangle is reached and the new one wasn't. The side after the inverse of x is free: no edge of a new triangle is
+-- crossed, and it is not an edge of the new step. If x itself was free, that side takes its place; its triangle is
+-- new, so it is none of the other free labels. A label that was free in a tree is x only where the new node is of
+-- that tree.
 use Rattle.std.proofs.Common.{ℕ, ℤ, false, List, [], ◌∷◌, ◌++◌, ◌≡◌, ◌≢◌, ◌⊎◌, inl, inr, refl, sym, ◌∙◌, ap, subst}
 use Rattle.std.specs.List.{Contains}
 use Rattle.std.proofs.lemmas.Bool.{ne_eqb}

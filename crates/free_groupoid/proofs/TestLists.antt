@@ -1,4 +1,9 @@
 -- The list of test walks: what it holds, and what holds of all of it.
+--
+-- The list has a walk for each outer edge, and one for each two of one component, the earlier of the list first. So
+-- what holds of the walk of each outer edge, and of each two with the same root, holds of all. Conversely the walk of
+-- an outer edge is in the list; and of two different ones with the same root one comes before the other, so their
+-- product is in the list in one of the two orders. Both are inductions on the list of edges.
 use Rattle.std.proofs.Common.{ℕ, ℤ, pos, List, [], ◌∷◌, ◌++◌, ◌≡◌, ◌≢◌, ◌⊎◌, inl, inr, sym, ◌∙◌, ap, subst, map, nat_eq}
 use Rattle.std.specs.List.{All, Contains}
 use Rattle.std.proofs.lemmas.Bool.{eq-eqb, eqb-true}

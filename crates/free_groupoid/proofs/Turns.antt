@@ -1,9 +1,8 @@
 -- One node's turn: afterwards each side of its triangle leads to a node of the same tree.
 --
--- A side whose other triangle is new gets a node there. Where the triangle has a node already, that node is of the same
--- tree: if it waits, because all waiting nodes are; if it had its turn, because its own sides lead to nodes of its
--- tree,
--- one of them to the triangle of the node whose turn it is, and no two nodes are at one triangle.
+-- A side whose other triangle is new gets a node there. Where the triangle has a node already, that node is of the
+-- same tree: if it waits, because all waiting nodes are; if it had its turn, because its own sides lead to nodes of
+-- its tree, one of them to the triangle of the node whose turn it is, and no two nodes are at one triangle.
 use Rattle.std.proofs.Common.{ℕ, ℤ, true, List, ◌∷◌, ◌++◌, ◌≡◌, ◌<◌, ◌≤◌, ◌+◌, ◌⊎◌, inl, inr, sym, ◌∙◌, ap, subst}
 use Rattle.std.proofs.Common.{length}
 use Rattle.std.specs.List.{Contains}
