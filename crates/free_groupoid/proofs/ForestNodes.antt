@@ -19,7 +19,7 @@ use Rattle.free_groupoid.proofs.Known.{Glued}
 use Rattle.free_groupoid.proofs.Members.{member_here, member_later}
 use Rattle.free_groupoid.proofs.Nodes.{is_crossed, crossed_by, crossing_node, ends_across-push}
 use Rattle.free_groupoid.proofs.Forests.{StandsBeyond}
-use Rattle.free_groupoid.proofs.Turns.{IsBeyond}
+use Rattle.free_groupoid.proofs.NodeTurns.{IsBeyond}
 use Rattle.free_groupoid.proofs.Planting.{IsGrown}
 
 -- ---- the node at a triangle

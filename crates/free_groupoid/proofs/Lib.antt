@@ -17,7 +17,7 @@ pub mod Forests
 pub mod Sprouts
 pub mod Additions
 pub mod SidesInOrder
-pub mod Turns
+pub mod NodeTurns
 pub mod Growing
 pub mod Planting
 pub mod ForestNodes

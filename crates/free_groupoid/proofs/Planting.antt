@@ -19,7 +19,7 @@ use Rattle.free_groupoid.proofs.Members.{member_here, member_later, member_cases
 use Rattle.free_groupoid.proofs.Nodes.{still_reached, now_reached, missing, missing-new, missing-le}
 use Rattle.free_groupoid.proofs.Forests.{IsForest}
 use Rattle.free_groupoid.proofs.Additions.{planted_forest, no_nodes}
-use Rattle.free_groupoid.proofs.Turns.{IsClosed, IsGrowing, IsTurning, closed_more}
+use Rattle.free_groupoid.proofs.NodeTurns.{IsClosed, IsGrowing, IsTurning, closed_more}
 use Rattle.free_groupoid.proofs.Growing.{turn}
 
 -- ---- a tree

@@ -12,7 +12,7 @@ use Rattle.ideal_tri.specs.Words.{inverse_word, IsReduced, reduce, cyclic_reduce
 use Rattle.free_groupoid.proofs.Known.{Known}
 use Rattle.free_groupoid.proofs.Names.{+0, +1, +2, -2, +3, -3, +4, -4, +5, +6, -6, by_fact}
 use Rattle.free_groupoid.proofs.Carrying.{Carries, carries-rotation}
-use Rattle.free_groupoid.proofs.Reduced.{IsReduced-front, IsReduced-back, IsReduced-join, IsReduced-inverse_word, apart}
+use Rattle.free_groupoid.proofs.Reduced.{IsReduced-parts, IsReduced-join, IsReduced-inverse_word, apart}
 use Rattle.free_groupoid.proofs.Powers.{Only, StartsApart, power_commutes}
 use Rattle.free_groupoid.proofs.Splits.{end_split}
 
@@ -140,8 +140,8 @@ module _ (known : Known) where
             split.parts ∙ sym (append_assoc split.before (split.last ∷ []) split.end) in
             absurd
             (nothing_left x y split.before split.last split.end (inverse_word p ++ q) n
-            (IsReduced-front (split.before ++ (split.last ∷ [])) split.end
-            (subst IsReduced parts (IsReduced-back p w reduced)))
+            (IsReduced-parts (split.before ++ (split.last ∷ [])) split.end
+            (subst IsReduced parts (IsReduced-parts p w reduced).1)).0
             (subst (StartsApart x) split.parts start_x) split.apart
             (taken_off known x y (p ++ w) p (split.before ++ (split.last ∷ [])) split.end q
             (ap (λ (z : List ℤ). p ++ z) parts) only split.only carries)))

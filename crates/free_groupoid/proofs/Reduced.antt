@@ -8,25 +8,13 @@ use Rattle.free_groupoid.proofs.Known.{Known}
 
 -- ---- parts
 
-pub IsReduced-tail : (x : ℤ) (w : List ℤ) → IsReduced (x ∷ w) → IsReduced w
-IsReduced-tail x [] h = tt
-IsReduced-tail x (y ∷ w) h = h.1
-
-pub IsReduced-front : (u v : List ℤ) → IsReduced (u ++ v) → IsReduced u
-IsReduced-front [] v h = tt
-IsReduced-front (x ∷ []) v h = tt
-IsReduced-front (x ∷ (y ∷ u)) v h = (h.0, IsReduced-front (y ∷ u) v h.1)
-
-pub IsReduced-back : (u v : List ℤ) → IsReduced (u ++ v) → IsReduced v
-IsReduced-back [] v h = h
-IsReduced-back (x ∷ u) v h = IsReduced-back u v (IsReduced-tail x (u ++ v) h)
-
--- two reduced words joined at a letter x, the last of the first and the first of the second
-IsReduced-glue : (u : List ℤ) (x : ℤ) (v : List ℤ) → IsReduced (u ++ (x ∷ [])) → IsReduced (x ∷ v)
-    → IsReduced (u ++ (x ∷ v))
-IsReduced-glue [] x v h k = k
-IsReduced-glue (y ∷ []) x v h k = (h.0, k)
-IsReduced-glue (y ∷ (z ∷ u)) x v h k = (h.0, IsReduced-glue (z ∷ u) x v h.1 k)
+pub IsReduced-parts : (u v : List ℤ) → IsReduced (u ++ v) → IsReduced u × IsReduced v
+IsReduced-parts [] v h = (tt, h)
+IsReduced-parts (x ∷ []) [] h = (tt, tt)
+IsReduced-parts (x ∷ []) (y ∷ v) h = (tt, h.1)
+IsReduced-parts (x ∷ (y ∷ u)) v h =
+    let rest = IsReduced-parts (y ∷ u) v h.1 in
+    ((h.0, rest.0), rest.1)
 
 -- ---- neighbours of different edges
 
@@ -37,7 +25,9 @@ apart known x y n e = n (ap edge_of e ∙ known.labels.edge y)
 pub IsReduced-join : Known → (u : List ℤ) (x y : ℤ) (v : List ℤ) → edge_of y ≢ edge_of x → IsReduced (u ++ (x ∷ []))
     → IsReduced (y ∷ v)
     → IsReduced (u ++ (x ∷ (y ∷ v)))
-IsReduced-join known u x y v n h k = IsReduced-glue u x (y ∷ v) h (apart known y x n, k)
+IsReduced-join known [] x y v n h k = (apart known y x n, k)
+IsReduced-join known (z ∷ []) x y v n h k = (h.0, (apart known y x n, k))
+IsReduced-join known (z ∷ (a ∷ u)) x y v n h k = (h.0, IsReduced-join known (a ∷ u) x y v n h.1 k)
 
 -- ---- the way back
 
