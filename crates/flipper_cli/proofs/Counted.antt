@@ -1,5 +1,5 @@
 -- The moved vector counts the crossings of the image curves.
-use Rattle.std.proofs.Common.{◌≡◌, ◌<◌, ℕ, ℤ, List, slice_index, refl, sym, ◌∙◌, subst}
+use Rattle.std.proofs.Common.{◌≡◌, ◌<◌, ℕ, ℤ, List, slice_index, sym, ◌∙◌, subst}
 use Rattle.ideal_tri.specs.Curves.{crossings}
 use Rattle.ideal_tri.specs.Strands.{words_of}
 use Rattle.ideal_tri.specs.Triangulations.{IsTriangulation}

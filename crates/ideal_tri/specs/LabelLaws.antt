@@ -4,7 +4,8 @@ use Rattle.std.specs.Ordering.{int_eq}
 use Rattle.ideal_tri.specs.Labels.{inverse, edge_of, with_sign_of}
 use Rattle.ideal_tri.specs.Triangulations.{IsLabel}
 
--- an edge has two labels, each the inverse of the other, and whether two labels are the same is decided by their test
+-- an edge has two labels, each the inverse of the other, and whether two labels are the same is
+-- decided by their test
 pub record LabelLaws : Type 0 where
   pub twice : (x : ℤ) → inverse (inverse x) ≡ x
   pub apart : (x : ℤ) → x ≢ inverse x

@@ -4,8 +4,8 @@ ghost use Rattle.ideal_tri.specs.Labels.{inverse, edge_of, with_sign_of};
 
 use std::marker::Model;
 
-/// A directed edge of a triangulation (after Bell's flipper): edge `n` has the labels `n` and `-1 - n`.
-/// Labels mean nothing without their triangulation.
+/// A directed edge of a triangulation (after Bell's flipper): edge `n` has the labels `n` and
+/// `-1 - n`. Labels mean nothing without their triangulation.
 #[derive(Clone, Copy, Debug, PartialEq, Eq)]
 pub struct Label(i32);
 

@@ -6,7 +6,8 @@ use Rattle.ideal_tri.specs.Words.{inverse_word}
 use Rattle.ideal_tri.specs.Triangulations.{IsTriangulation, IsConnected, IsLabel, IsWalk, triangle_of, next}
 use Rattle.ideal_tri.specs.SurfaceLaws.{SurfaceLaws, TriangleLaws, WalkLaws}
 
--- what holds of a label, of the one after each, and of the inverse of each, holds of all where the triangles are connected
+-- what holds of a label, of the one after each, and of the inverse of each, holds of all where the triangles are
+-- connected
 module _ (labels : LabelLaws) (surfaces : SurfaceLaws) (triples : List (List ℤ)) (h : IsTriangulation triples)
     (P : ℤ → Type 0) (goes_on : (x : ℤ) → IsLabel triples x → P x → P (next triples x))
     (goes_over : (x : ℤ) → P x → P (inverse x)) where

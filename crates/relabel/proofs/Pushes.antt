@@ -1,7 +1,7 @@
 -- A relabelling pushed and read backwards, and its inverse pushed.
-use Rattle.std.proofs.Common.{◌≡◌, ◌∙◌, ℕ, ℤ, List, sym, ap}
+use Rattle.std.proofs.Common.{◌∙◌, ℕ, ℤ, List, sym, ap}
 use Rattle.ideal_tri.specs.Relabellings.{inverse_images}
-use Rattle.tri_atlas.specs.Moves.{Move, back_of}
+use Rattle.tri_atlas.specs.Moves.{back_of}
 use Rattle.tri_atlas.specs.Arena.{Arena, MoveHandle, IsArena, Grows, back}
 use Rattle.tri_atlas.specs.AtlasLaws.{AtlasLaws}
 use Rattle.relabel.specs.Pushed.{IsPushed}

@@ -12,7 +12,7 @@ use Rattle.relabel.specs.declared.relabelling.RelabelError.TheVariants.{BreaksTr
 -- i is the first place whose entry is no label of a triangulation with so many edges
 pub record IsFirstOutside (edges : ℕ) (list : List ℤ) (i : ℕ) : Type 0 where
   pub within : i < length list
-  pub outside : edge_of (slice_index_or list i (pos 0)) < edges → ⊥
+  pub outside : ¬ edge_of (slice_index_or list i (pos 0)) < edges
   pub before : All (λ x. edge_of x < edges) (take i list)
 
 -- e is the least edge that is hit twice or more
@@ -27,7 +27,7 @@ HitsNoneTwice list = (e : ℕ) → hits list e ≤ 1
 -- t is the least triangle of `from` whose image is no triangle of `to`
 pub record IsLeastBroken (from to : List (List ℤ)) (list : List ℤ) (t : ℕ) : Type 0 where
   pub within : t < length from
-  pub broken : IsCarried to list (slice_index_or from t []) → ⊥
+  pub broken : ¬ IsCarried to list (slice_index_or from t [])
   pub before : All (IsCarried to list) (take t from)
 
 -- this refusal fits, and none that is tested before it
@@ -38,5 +38,5 @@ IsRefusedFor from to list (NotLabel i) =
 IsRefusedFor from to list (NotBijective x) =
     (length list ≡ edge_count from) × All (IsLabel to) list × IsLeastHitTwice list x
 IsRefusedFor from to list (BreaksTriangle t) =
-    (length list ≡ edge_count from) × All
-    (IsLabel to) list × HitsNoneTwice list × IsLeastBroken from to list t
+    (length list ≡ edge_count from) × All (IsLabel to) list × HitsNoneTwice list
+    × IsLeastBroken from to list t

@@ -9,9 +9,11 @@
 -- A move read backwards is the backward move of what is kept, which leads from the target to the source. An edge that
 -- is carried has a label at its end: a flip keeps the labels, and the image of a label under a relabelling is the
 -- first letter of a walk, so a label.
-use Rattle.std.proofs.Common.{◌≡◌, ◌∙◌, ◌<◌, ◌++◌, [], ◌∷◌, ℕ, zero, suc, ℤ, Bool, true, false, List, refl, sym, ap}
+use Rattle.std.proofs.Common.{◌≡◌, ◌∙◌, ◌<◌, ◌≤◌, ◌++◌, [], ◌∷◌, ℕ, zero, suc, ℤ, Bool, true, false, List, refl, sym}
+use Rattle.std.proofs.Common.{ap}
 use Rattle.std.proofs.Common.{subst, length, get_or, arith, length-append}
 use Rattle.std.proofs.lemmas.List.{append-nil, get_or_append_left, get_or_push}
+use Rattle.ideal_tri.specs.declared.tri.TheConstants.{EDGES}
 use Rattle.ideal_tri.specs.Flips.{IsFlippable, flipped}
 use Rattle.ideal_tri.specs.FlipLaws.{OneFlipLaws, FlipLaws}
 use Rattle.ideal_tri.specs.Relabellings.{IsRelabelling}
@@ -121,7 +123,7 @@ IsArena-triangulation old triples h is e =
       base = omega (arith, length-append old.triangulations (triples ∷ []));
       sound = each_pushed IsTriangulation old.triangulations triples [] h.sound is;
       edges = λ t l. each_pushed as_base old.triangulations triples [] h.edges e t l ∙ sym (ap edge_count first);
-      few = subst (λ (n : ℕ). n < 49) (sym (ap edge_count first)) h.few;
+      few = subst (λ (n : ℕ). n ≤ EDGES) (sym (ap edge_count first)) h.few;
       moves = λ k l. entry_stays old.triangulations (triples ∷ []) (entry_at old.moves k) (h.moves k l);
     }
 

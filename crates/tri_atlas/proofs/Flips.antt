@@ -165,7 +165,8 @@ module _ (laws : LowerLaws) where
   now_d before target e a b c d q h =
       ap (λ (t : List (List ℤ)). triangle_of t d) h.result ∙ ap (triangle_of (flipped before e)) h.side_d ∙ q.moved_d
 
-  kept_triangle : (before target : List (List ℤ)) (e a b c d x : ℤ) → OneFlipLaws before e → IsFlip before target e a b c d
+  kept_triangle : (before target : List (List ℤ)) (e a b c d x : ℤ) → OneFlipLaws before e
+      → IsFlip before target e a b c d
       → IsLabel before x → x ≢ b → x ≢ d → triangle_of target x ≡ triangle_of before x
   kept_triangle before target e a b c d x q h l n m =
       ap (λ (t : List (List ℤ)). triangle_of t x) h.result

@@ -4,8 +4,8 @@
 -- element with that number is the same: a handle of the old arena is one of the new arena, and stands for the same
 -- triangulation, edge or move. Paths follow by induction on their moves. Where triangles go across a move is said by
 -- its two triangulations and what it does, all of which are the same.
-use Rattle.std.proofs.Common.{◌≡◌, ◌∙◌, ◌<◌, ◌++◌, [], ◌∷◌, ℕ, Bool, true, false, List, ℤ, refl, sym, ap, subst, length}
-use Rattle.std.proofs.Common.{map, arith, length-append}
+use Rattle.std.proofs.Common.{◌≡◌, ◌∙◌, ◌<◌, ◌++◌, [], ◌∷◌, ℕ, List, ℤ, refl, sym, ap, subst, length}
+use Rattle.std.proofs.Common.{map, arith, length-append, if◌then◌else◌}
 use Rattle.std.proofs.lemmas.List.{append-nil, append_assoc, get_or_append_left}
 use Rattle.ideal_tri.specs.Triangulations.{IsLabel}
 use Rattle.tri_atlas.specs.Moves.{Move, back_of, triangle_image}
@@ -62,28 +62,13 @@ same_entry old new m g h =
     ap (λ (z : List Entry). entry_at z m.number) g.moves.1 ∙ get_or_append_left old.moves g.moves.0 _ m.number h
 
 same_source : (old new : Arena) (m : MoveHandle) → Grows old new → IsMoveIn old m → source_of new m ≡ source_of old m
-same_source old new m g h = by_direction m.backwards
-  where
-    by_direction : (b : Bool) → let way : MoveHandle = record { number = m.number; backwards = b } in
-        source_of new way ≡ source_of old way
-    by_direction true = ap (λ (e : Entry). e.target) (same_entry old new m g h)
-    by_direction false = ap (λ (e : Entry). e.source) (same_entry old new m g h)
+same_source old new m g h = ap (λ (e : Entry). if m.backwards then e.target else e.source) (same_entry old new m g h)
 
 same_target : (old new : Arena) (m : MoveHandle) → Grows old new → IsMoveIn old m → target_of new m ≡ target_of old m
-same_target old new m g h = by_direction m.backwards
-  where
-    by_direction : (b : Bool) → let way : MoveHandle = record { number = m.number; backwards = b } in
-        target_of new way ≡ target_of old way
-    by_direction true = ap (λ (e : Entry). e.source) (same_entry old new m g h)
-    by_direction false = ap (λ (e : Entry). e.target) (same_entry old new m g h)
+same_target old new m g h = ap (λ (e : Entry). if m.backwards then e.source else e.target) (same_entry old new m g h)
 
 same_step : (old new : Arena) (m : MoveHandle) → Grows old new → IsMoveIn old m → step_of new m ≡ step_of old m
-same_step old new m g h = by_direction m.backwards
-  where
-    by_direction : (b : Bool) → let way : MoveHandle = record { number = m.number; backwards = b } in
-        step_of new way ≡ step_of old way
-    by_direction true = ap (λ (e : Entry). back_of e.move) (same_entry old new m g h)
-    by_direction false = ap (λ (e : Entry). e.move) (same_entry old new m g h)
+same_step old new m g h = ap (λ (e : Entry). if m.backwards then back_of e.move else e.move) (same_entry old new m g h)
 
 -- ---- paths
 

@@ -1,11 +1,12 @@
 -- An atlas: triangulations and the moves between them, and handles of its triangulations, edges and
 -- moves.
-use Rattle.std.specs.Prelude.{◌≡◌, ◌<◌, ◌+◌, ℕ, ℤ, Bool, false, List, [], ◌++◌, length, take}
+use Rattle.std.specs.Prelude.{◌≡◌, ◌<◌, ◌≤◌, ◌+◌, ℕ, ℤ, Bool, false, List, [], ◌++◌, length, take}
 use Rattle.std.specs.Prelude.{slice_index_or, if◌then◌else◌, ◌||◌, not}
 use Rattle.std.specs.Ordering.{int_eq}
 use Rattle.ideal_tri.specs.Labels.{inverse}
 use Rattle.ideal_tri.specs.Triangulations.{IsTriangulation, IsLabel, edge_count, next, previous}
 use Rattle.ideal_tri.specs.Relabellings.{image_of}
+use Rattle.ideal_tri.specs.declared.tri.TheConstants.{EDGES}
 use Rattle.tri_atlas.specs.Moves.{Move, flip, unflip, relabel, IsMove, back_of}
 
 -- a move as it is kept, read forwards: the numbers of the triangulations where it starts and ends,
@@ -88,14 +89,14 @@ pub record IsEntryOf (triangulations : List (List (List ℤ))) (entry : Entry) :
   pub move : IsMove (slice_index_or triangulations entry.source [])
       (slice_index_or triangulations entry.target []) entry.move
 
--- what is true of every atlas: triangulations with the same number of edges, at most 48, and moves
--- between them
+-- what is true of every atlas: triangulations with the same number of edges, at most EDGES, and
+-- moves between them
 pub record IsArena (arena : Arena) : Type 0 where
   pub base : IsTriIn arena 0
   pub sound : (t : ℕ) → IsTriIn arena t → IsTriangulation (triangulation arena t)
   pub edges : (t : ℕ) → IsTriIn arena t
       → edge_count (triangulation arena t) ≡ edge_count (triangulation arena 0)
-  pub few : edge_count (triangulation arena 0) < 49
+  pub few : edge_count (triangulation arena 0) ≤ EDGES
   pub moves : (k : ℕ) → k < length arena.moves
       → IsEntryOf arena.triangulations (entry_at arena.moves k)
 

@@ -15,7 +15,7 @@ ghost use Rattle.tri_atlas.specs.Paths.{is_flip};
 use crate::handles::{EdgeId, MoveId, TriId};
 use crate::laws::map_laws;
 use crate::step::{Carried, Step, backwards, is_flip, is_flipped, label_after};
-use ideal_tri::{Label, Memory, Tri, flip_laws, relabelling_laws, surface_laws};
+use ideal_tri::{EDGES, Label, Memory, Tri, flip_laws, relabelling_laws, surface_laws};
 use std::alloc::Global;
 use std::marker::Model;
 
@@ -164,7 +164,7 @@ impl Atlas {
     /// Keeps a relabelling, whose images carry one triangulation onto the other. With `n` edges,
     /// only the first `n` images count. There must be room, made by `reserve`; this uses one place
     /// of it, and takes no memory.
-    pub fn push_relabel(&mut self, from: TriId, to: TriId, images: [Label; 48]) -> MoveId
+    pub fn push_relabel(&mut self, from: TriId, to: TriId, images: [Label; EDGES]) -> MoveId
         requires room { 0 < self.old.spare }
         requires from { IsTriIn self.old from }
         requires to { IsTriIn self.old to }

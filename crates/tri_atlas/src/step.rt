@@ -1,5 +1,5 @@
 //! What a move does, and what becomes of an edge.
-ghost use Rattle.std.specs.Prelude.{◌≡◌, ◌<◌, ℕ, true, false, length, take};
+ghost use Rattle.std.specs.Prelude.{◌≡◌, ◌<◌, ◌≤◌, ℕ, true, false, length, take};
 ghost use Rattle.ideal_tri.specs.Labels.{edge_of};
 ghost use Rattle.ideal_tri.specs.Relabellings.{image_of, origin_of, inverse_images};
 ghost use Rattle.tri_atlas.specs.Moves.{back_of};
@@ -9,7 +9,7 @@ ghost use Rattle.tri_atlas.specs.Steps.{move_of};
 ghost use Rattle.tri_atlas.specs.inside.Backwards.{IsBijective};
 
 use crate::handles::EdgeId;
-use ideal_tri::{Label, bijection_laws, inverse_images};
+use ideal_tri::{EDGES, Label, bijection_laws, inverse_images};
 
 /// What a move does.
 #[derive(Clone, Copy, Debug)]
@@ -34,7 +34,7 @@ pub enum Step {
     },
     /// The labels `0` to `n - 1` get these new labels, with `n` edges, and `~x` the other direction
     /// of that of `x`. Only the first `n` entries count.
-    Relabel([Label; 48]),
+    Relabel([Label; EDGES]),
 }
 
 /// An edge after a move.
@@ -48,7 +48,7 @@ pub enum Carried {
 
 /// The label whose new label is `x`, among those of the edges that have these new labels.
 fn origin(images: &[Label], x: Label) -> Label
-    requires { length images.now < 49 }
+    requires { length images.now ≤ EDGES }
     ensures { result ≡ origin_of images.now x }
 {
     for k in 0..images.len() {
@@ -65,7 +65,7 @@ fn origin(images: &[Label], x: Label) -> Label
 
 /// The same move, the other way, with this number of edges.
 pub(crate) fn backwards(step: &Step, edges: usize) -> Step
-    requires edges { edges < 49 }
+    requires edges { edges ≤ EDGES }
     requires bijective { IsBijective (move_of edges step.now) }
     ensures { move_of edges result ≡ back_of (move_of edges step.now) }
 {
@@ -90,7 +90,7 @@ pub(crate) fn backwards(step: &Step, edges: usize) -> Step
 
 /// The label of an edge after a move with this number of edges, forwards or backwards.
 pub(crate) fn label_after(step: &Step, edges: usize, backwards: bool, x: Label) -> Label
-    requires edges { edges < 49 }
+    requires edges { edges ≤ EDGES }
     requires label { edge_of x < edges }
     ensures forwards { backwards ≡ false → result ≡ label_after (move_of edges step.now) x }
     ensures back { backwards ≡ true → result ≡ label_after (back_of (move_of edges step.now)) x }
@@ -108,8 +108,8 @@ pub(crate) fn label_after(step: &Step, edges: usize, backwards: bool, x: Label) 
 }
 
 /// The new label of `x` where those of the edges are these.
-fn image(images: &[Label; 48], edges: usize, x: Label) -> Label
-    requires edges { edges < 49 }
+fn image(images: &[Label; EDGES], edges: usize, x: Label) -> Label
+    requires edges { edges ≤ EDGES }
     requires label { edge_of x < edges }
     ensures { result ≡ image_of (take edges images.now) x }
 {
@@ -118,8 +118,8 @@ fn image(images: &[Label; 48], edges: usize, x: Label) -> Label
 }
 
 /// The new label of `x` under the relabelling backwards.
-fn image_back(images: &[Label; 48], edges: usize, x: Label) -> Label
-    requires edges { edges < 49 }
+fn image_back(images: &[Label; EDGES], edges: usize, x: Label) -> Label
+    requires edges { edges ≤ EDGES }
     requires label { edge_of x < edges }
     ensures { result ≡ image_of (inverse_images (take edges images.now)) x }
 {

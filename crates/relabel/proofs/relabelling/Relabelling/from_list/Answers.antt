@@ -1,4 +1,4 @@
-use Rattle.std.proofs.Common.{ℤ, List, ◌≡◌, arith, subst, All}
+use Rattle.std.proofs.Common.{ℤ, List, arith, subst, All}
 use Rattle.ideal_tri.specs.Relabellings.{IsBijection, IsCarried}
 use Rattle.relabel.proofs.Acceptance.{bijection_from}
 use Rattle.relabel.proofs.relabelling.Relabelling.from_list.Goals as goal
