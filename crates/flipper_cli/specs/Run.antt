@@ -2,7 +2,7 @@
 -- then hold, and the headline over what was printed.
 use Rattle.std.specs.Prelude.{◌≡◌, ◌⊎◌, ℕ, List, Option, Some, None, Result, Ok, Err, Vec, String}
 use Rattle.std.specs.declared.alloc.Global.{Global}
-use Rattle.flip_io.specs.Counts.{Rose}
+use Rattle.flip_io.specs.Counts.{Rose, raised}
 use Rattle.flip_io.specs.Files.{Files}
 use Rattle.flip_io.specs.Taken.{Took, TookPrefix}
 use Rattle.flipper_cli.specs.Answers.{Report, printed, refused}
@@ -10,7 +10,7 @@ use Rattle.flipper_cli.specs.Command.{command, IsReadBy}
 use Rattle.flipper_cli.specs.Headline.{IsHeadline}
 use Rattle.flipper_cli.specs.Report.{IsReport}
 use Rattle.flipper_cli.specs.declared.report.Status.{Status}
-use Rattle.flipper_cli.specs.declared.report.Status.TheVariants.{SinkFault}
+use Rattle.flipper_cli.specs.declared.report.Status.TheVariants.{ShelfFault, SinkFault}
 use Rattle.flipper_cli.specs.declared.report.Refusal.{Refusal}
 use Rattle.flipper_cli.specs.declared.report.Refusal.TheVariants.{Failed, Memory}
 
@@ -31,11 +31,16 @@ IsAnswer words files r = IsReport (command words) files r ⊎ ((r ≡ refused Fa
 
 -- ---- the causes
 
--- the count of a name that the words read rose
-pub record ReadRose (words : List (String Global)) (before now : List ℕ → ℕ) : Type 0 where
+-- a read of a name that the words read failed: its count was raised by one
+pub record ReadRaised (words : List (String Global)) (before now : List ℕ → ℕ) : Type 0 where
   pub name : List ℕ
   pub read : IsReadBy (command words) name
-  pub rose : Rose (before name) (now name)
+  pub once : now name ≡ raised (before name)
+
+-- a write failed: the count of one sink was raised by one, and that of the other stayed
+abbrev pub SinkRaised : (out out_now err err_now : ℕ) → Type 0
+SinkRaised out out_now err err_now =
+    ((out_now ≡ raised out) × (err_now ≡ err)) ⊎ ((out_now ≡ out) × (err_now ≡ raised err))
 
 -- the files lack a name that the words read
 pub record IsLacking (words : List (String Global)) (files : Files) : Type 0 where
@@ -43,11 +48,18 @@ pub record IsLacking (words : List (String Global)) (files : Files) : Type 0 whe
   pub read : IsReadBy (command words) name
   pub lacks : files name ≡ None
 
+-- the status tells of no read that failed and of no absent file, and no failed write hides one
+abbrev pub TellsNoFault : Status → Type 0
+TellsNoFault (ShelfFault _) = ⊥
+TellsNoFault SinkFault = ⊥
+TellsNoFault _ = Unit {0}
+
 -- no count rose: of the names that the words read, and of the two sinks
-pub record IsQuiet (words : List (String Global)) (reads reads_now : List ℕ → ℕ) (out out_now err err_now : ℕ) : Type 0 where
-  pub shelf : ReadRose words reads reads_now → ⊥
-  pub output : Rose out out_now → ⊥
-  pub errors : Rose err err_now → ⊥
+pub record IsQuiet (words : List (String Global)) (reads reads_now : List ℕ → ℕ)
+    (out out_now err err_now : ℕ) : Type 0 where
+  pub shelf : (name : List ℕ) → IsReadBy (command words) name → ¬ Rose (reads name) (reads_now name)
+  pub output : ¬ Rose out out_now
+  pub errors : ¬ Rose err err_now
 
 -- ---- the sinks
 

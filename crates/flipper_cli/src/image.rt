@@ -15,7 +15,8 @@ use crate::names::is_generator_name;
 use crate::report::{Refusal, Status};
 use crate::surface::{Surface, SurfaceRefusal, read_surface};
 use crate::vector::{is_multicurve, moved};
-use relabel::{Relabelling, relabelling_laws};
+use ideal_tri::relabelling_laws;
+use relabel::Relabelling;
 use std::alloc::Global;
 
 fn refusal_of(refusal: SurfaceRefusal) -> Refusal

@@ -1,12 +1,13 @@
 //! A run of the program.
 ghost use Rattle.std.specs.Prelude.{◌≡◌, ◌⊎◌, ◌≤◌, ℕ, List, [], Option, Some, None, Result, Vec};
 ghost use Rattle.std.specs.declared.alloc.Global.{Global};
-ghost use Rattle.flip_io.specs.Counts.{Rose};
+ghost use Rattle.flip_io.specs.Counts.{SameCounts};
 ghost use Rattle.flip_io.specs.Files.{Files};
+ghost use Rattle.flip_io.specs.Reads.{AfterReads};
 ghost use Rattle.flip_io.specs.Taken.{Took};
 ghost use Rattle.flip_io.specs.declared.shelf.ShelfFault.TheVariants.{Absent, Failed};
-ghost use Rattle.flipper_cli.specs.Command.{command};
-ghost use Rattle.flipper_cli.specs.Run.{IsLacking, IsOver, IsQuiet, IsReported, IsRun, IsWritten, PrintsHeadline, ReadRose, shown};
+ghost use Rattle.flipper_cli.specs.Command.{IsReadBy, command};
+ghost use Rattle.flipper_cli.specs.Run.{IsLacking, IsOver, IsQuiet, IsReported, IsRun, IsWritten, PrintsHeadline, ReadRaised, SinkRaised, TellsNoFault, shown};
 ghost use Rattle.flipper_cli.specs.declared.report.Refusal.{Refusal};
 
 use crate::report::{Refusal, Status};
@@ -17,8 +18,10 @@ use std::alloc::Global;
 /// Writes what the work found: its bytes to the output, or the line of a refusal to the error stream.
 fn deliver<O: Sink, E: Sink>(made: Result<Vec<u8>, Refusal>, out: &mut O, err: &mut E) -> Status
     ensures written { IsWritten (shown made) result (O.told out.old) (O.told out.new) (E.told err.old) (E.told err.new) }
-    ensures later { (O.faults out.old ≤ O.faults out.new) × (E.faults err.old ≤ E.faults err.new) }
-    ensures sinks { result ≡ Status.SinkFault → Rose (O.faults out.old) (O.faults out.new) ⊎ Rose (E.faults err.old) (E.faults err.new) }
+    ensures sinks { result ≡ Status.SinkFault
+        → SinkRaised (O.faults out.old) (O.faults out.new) (E.faults err.old) (E.faults err.new) }
+    ensures uncounted { ¬ (result ≡ Status.SinkFault)
+        → (O.faults out.new ≡ O.faults out.old) × (E.faults err.new ≡ E.faults err.old) }
 {
     match made {
         Ok(bytes) => {
@@ -66,21 +69,36 @@ pub fn run<S: Shelf, O: Sink, E: Sink>(
 
     // THE CAUSES. A failed read is answered only where the count of a name that the words read rose.
     ensures failed { result ≡ Status.ShelfFault ShelfFault.Failed
-        → ReadRose words.now (S.faults shelf.old) (S.faults shelf.new) }
+        → ReadRaised words.now (S.faults shelf.old) (S.faults shelf.new) }
 
-    // A file is absent only where the files lack it, or where they aren't told and the count of its name rose.
-    ensures lacks { (files : Files) → S.told shelf.old ≡ Some files → result ≡ Status.ShelfFault ShelfFault.Absent
-        → IsLacking words.now files }
+    // A file is absent only where the files lack it, or where they aren't told and the count of its
+    // name rose.
+    ensures lacks { (files : Files) → S.told shelf.old ≡ Some files
+        → result ≡ Status.ShelfFault ShelfFault.Absent → IsLacking words.now files }
     ensures absent { S.told shelf.old ≡ None → result ≡ Status.ShelfFault ShelfFault.Absent
-        → ReadRose words.now (S.faults shelf.old) (S.faults shelf.new) }
+        → ReadRaised words.now (S.faults shelf.old) (S.faults shelf.new) }
 
-    // Where the files lack it, that is the answer, unless something failed or memory was short.
+    // Where the files lack it, that is the answer, unless a write failed.
     ensures lacking { (files : Files) → S.told shelf.old ≡ Some files → IsLacking words.now files
-        → (result ≡ Status.ShelfFault ShelfFault.Absent) ⊎ ((result ≡ Status.ShelfFault ShelfFault.Failed)
-        ⊎ ((result ≡ Status.SinkFault) ⊎ (result ≡ Status.Memory))) }
+        → (result ≡ Status.ShelfFault ShelfFault.Absent) ⊎ (result ≡ Status.SinkFault) }
 
     // A write failed only where the count of a sink rose.
-    ensures sinks { result ≡ Status.SinkFault → Rose (O.faults out.old) (O.faults out.new) ⊎ Rose (E.faults err.old) (E.faults err.new) }
+    ensures sinks { result ≡ Status.SinkFault
+        → SinkRaised (O.faults out.old) (O.faults out.new) (E.faults err.old) (E.faults err.new) }
+
+    // No other answer raises a count.
+    ensures uncounted { TellsNoFault result → SameCounts (S.faults shelf.old) (S.faults shelf.new) }
+    ensures missed { (files : Files) → S.told shelf.old ≡ Some files
+        → result ≡ Status.ShelfFault ShelfFault.Absent
+        → SameCounts (S.faults shelf.old) (S.faults shelf.new) }
+    ensures written_uncounted { ¬ (result ≡ Status.SinkFault)
+        → (O.faults out.new ≡ O.faults out.old) × (E.faults err.new ≡ E.faults err.old) }
+
+    // THE READS. Only names that the words read are read, and the files stay. Words that fit no
+    // command leave the shelf as it was.
+    ensures reads { AfterReads S.after_read (IsReadBy (command words.now)) shelf.old shelf.new }
+    ensures told { S.told shelf.new ≡ S.told shelf.old }
+    ensures unread { command words.now ≡ None → shelf.new ≡ shelf.old }
 
     // Words are refused exactly where they fit no command, unless a write failed.
     ensures usage { result ≡ Status.WordsRefused → command words.now ≡ None }

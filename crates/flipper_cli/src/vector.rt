@@ -1,11 +1,11 @@
 //! Vectors with one number for each edge.
-ghost use Rattle.std.specs.Prelude.{◌≡◌, ◌<◌, ◌^◌, ◌↔◌, ℕ, length, IfOk, IsTrue, All};
+ghost use Rattle.std.specs.Prelude.{◌≡◌, ◌<◌, ◌^◌, ◌↔◌, length, IfOk, IsTrue, All};
 ghost use Rattle.ideal_tri.specs.Labels.{edge_of};
 ghost use Rattle.ideal_tri.specs.Vectors.{weight, IsEven, HasNoLongSide, IsMulticurve};
-ghost use Rattle.ideal_tri.specs.Relabellings.{hits};
+ghost use Rattle.ideal_tri.specs.Relabellings.{IsBijection};
 ghost use Rattle.flipper_cli.specs.Coordinates.{IsMoved};
 
-use ideal_tri::{Label, Memory, Tri};
+use ideal_tri::{Label, Memory, Tri, bijection_laws};
 use relabel::Relabelling;
 use std::alloc::Global;
 
@@ -73,10 +73,10 @@ pub(crate) fn moved(
 ) -> Result<Vec<u128>, Memory>
     requires few { length w.now < 49 }
     requires same { length w.now ≡ length relabelling.now }
-    requires labels { All (λ x. edge_of x < length w.now) relabelling.now }
-    requires bijective { (e : ℕ) → e < length w.now → hits relabelling.now e ≡ 1 }
+    requires bijection { IsBijection relabelling.now }
     ensures { IfOk result (λ v. IsMoved relabelling.now w.now v.items) }
 {
+    bijection_laws();
     let mut moved = vec![in alloc; 0; w.len()]?;
     for edge in 0..w.len() {
         let image = relabelling.image(Label::new(edge as i32));

@@ -1,6 +1,16 @@
--- The numbers of the components: how they are counted by their least triangles, and that none is a single triangle.
-use Rattle.std.proofs.Common.{ℕ, zero, suc, ℤ, Bool, true, false, List, [], ◌∷◌, ◌≡◌, ◌≢◌, ◌≤◌, ◌<◌, ◌+◌, ◌⊎◌, ◌↔◌, inl, inr, refl, sym, ◌∙◌, ap, subst, arith, eqb, length, get_or}
-use Rattle.std.specs.List.{position_or_len, range_with_len}
+-- The numbers of the components: they are counted by their least triangles, and none is a single triangle.
+--
+-- That a walk joins two triangles is an equivalence, and decided by a test. So the first triangle that the test finds
+-- joined to t is the least of the component of t: it is joined to t, and it is the same for all triangles of the
+-- component. It is its own least triangle. The number of a component is the number of such least triangles before its
+-- own. It grows with the least triangle, so that it tells components apart, and each number below their count is
+-- taken. A triangulation has one component exactly where all triangles have the number of triangle 0.
+--
+-- Each triangle has a side whose other side lies in another triangle: if the inverses of all three sides a, b, c were
+-- again among a, b, c, they would come in pairs, since no label is its own inverse; but three is odd.
+use Rattle.std.proofs.Common.{ℕ, suc, ℤ, Bool, true, false, List, ◌≡◌, ◌≢◌, ◌≤◌, ◌<◌, ◌+◌, ◌⊎◌, ◌↔◌, inl, inr, refl}
+use Rattle.std.proofs.Common.{sym, ◌∙◌, ap, subst, arith, eqb, length, get_or}
+use Rattle.std.specs.List.{range_with_len}
 use Rattle.std.proofs.lemmas.Bool.{cases_Bool, cases_eq, cases_lt, eqb-true, eq-eqb, ne_eqb, false≢true}
 use Rattle.std.proofs.lemmas.List.FromFn.{length-range_with_len, get_or-range_with_len}
 use Rattle.std.proofs.lemmas.List.Sums.{fails_before_first, passes_at_first, position_or_len_is}
@@ -25,14 +35,17 @@ at_place : (n k : ℕ) → k < n → get_or (range_with_len 0 n) k 0 ≡ k
 at_place n k b = omega (arith, get_or-range_with_len 0 n k 0 b)
 
 -- the least is the first that the test finds
-least_triangle-is : (ts : List (List ℤ)) (t s : ℕ) → s < length ts → is_reached ts t s ≡ true → ((k : ℕ) → k < s → is_reached ts t k ≡ false)
+least_triangle-is : (ts : List (List ℤ)) (t s : ℕ) → s < length ts → is_reached ts t s ≡ true
+    → ((k : ℕ) → k < s → is_reached ts t k ≡ false)
     → least_triangle ts t ≡ s
 least_triangle-is ts t s below there none =
-    position_or_len_is (is_reached ts t) (range_with_len 0 (length ts)) s 0 (omega (arith, length-range_with_len 0 (length ts)))
+    position_or_len_is (is_reached ts t) (range_with_len 0 (length ts)) s 0
+    (omega (arith, length-range_with_len 0 (length ts)))
     (λ k b. ap (is_reached ts t) (at_place (length ts) k (omega arith)) ∙ none k b)
     (λ b. ap (is_reached ts t) (at_place (length ts) s below) ∙ there)
 
-pub least_triangle_least : (ts : List (List ℤ)) → IsTriangulation ts → (t s : ℕ) → t < length ts → s < length ts → IsReached ts t s
+pub least_triangle_least : (ts : List (List ℤ)) → IsTriangulation ts → (t s : ℕ) → t < length ts → s < length ts
+    → IsReached ts t s
     → least_triangle ts t ≤ s
 least_triangle_least ts h t s b c r =
     elim (cases_lt s (least_triangle ts t)) [
@@ -45,24 +58,35 @@ least_triangle_least ts h t s b c r =
           ∙ (reached_test ts h t s b).1 r))
     ]
 
-pub least_triangle_below : (ts : List (List ℤ)) → IsTriangulation ts → (t : ℕ) → t < length ts → least_triangle ts t < length ts
+pub least_triangle_below : (ts : List (List ℤ)) → IsTriangulation ts → (t : ℕ) → t < length ts
+    → least_triangle ts t < length ts
 least_triangle_below ts h t b = omega (arith, least_triangle_least ts h t t b b (reached_here ts t t refl))
 
-pub least_triangle_there : (ts : List (List ℤ)) → IsTriangulation ts → (t : ℕ) → t < length ts → IsReached ts t (least_triangle ts t)
+pub least_triangle_there : (ts : List (List ℤ)) → IsTriangulation ts → (t : ℕ) → t < length ts
+    → IsReached ts t (least_triangle ts t)
 least_triangle_there ts h t b =
     let below : least_triangle ts t < length ts = least_triangle_below ts h t b in
     (reached_test ts h t (least_triangle ts t) b).0
     (sym (ap (is_reached ts t) (at_place (length ts) (least_triangle ts t) below))
-    ∙ passes_at_first (is_reached ts t) (range_with_len 0 (length ts)) 0 (omega (arith, length-range_with_len 0 (length ts))))
+    ∙ passes_at_first (is_reached ts t) (range_with_len 0 (length ts)) 0
+    (omega (arith, length-range_with_len 0 (length ts))))
 
-pub least_triangle_same : (ts : List (List ℤ)) → IsTriangulation ts → (s t : ℕ) → s < length ts → t < length ts → IsReached ts s t
+pub least_triangle_same : (ts : List (List ℤ)) → IsTriangulation ts → (s t : ℕ) → s < length ts → t < length ts
+    → IsReached ts s t
     → least_triangle ts s ≡ least_triangle ts t
 least_triangle_same ts h s t b c r =
-    omega
-    (arith, least_triangle_least ts h s (least_triangle ts t) b (least_triangle_below ts h t c) (reached_along ts s t (least_triangle ts t) r (least_triangle_there ts h t c)), least_triangle_least ts h t (least_triangle ts s) c (least_triangle_below ts h s b) (reached_along ts t s (least_triangle ts s) (reached_back ts s t r) (least_triangle_there ts h s b)))
+    omega (
+      arith,
+      least_triangle_least ts h s (least_triangle ts t) b (least_triangle_below ts h t c)
+          (reached_along ts s t (least_triangle ts t) r (least_triangle_there ts h t c)),
+      least_triangle_least ts h t
+          (least_triangle ts s) c (least_triangle_below ts h s b)
+          (reached_along ts t s (least_triangle ts s) (reached_back ts s t r) (least_triangle_there ts h s b)),
+    )
 
 -- as a search finds it
-pub least_found : (ts : List (List ℤ)) → IsTriangulation ts → (t s : ℕ) → t < length ts → s < length ts → IsReached ts t s
+pub least_found : (ts : List (List ℤ)) → IsTriangulation ts → (t s : ℕ) → t < length ts → s < length ts
+    → IsReached ts t s
     → ((k : ℕ) → k < s → IsReached ts t k → ⊥) → s ≡ least_triangle ts t
 least_found ts h t s b c r none =
     sym
@@ -72,25 +96,32 @@ least_found ts h t s b c r none =
       | inr m ↦ m
     ]))
 
-reached_of_least : (ts : List (List ℤ)) → IsTriangulation ts → (s t : ℕ) → s < length ts → t < length ts → least_triangle ts s ≡ least_triangle ts t
+reached_of_least : (ts : List (List ℤ)) → IsTriangulation ts → (s t : ℕ) → s < length ts → t < length ts
+    → least_triangle ts s ≡ least_triangle ts t
     → IsReached ts s t
 reached_of_least ts h s t b c e =
     reached_along ts s (least_triangle ts s) t (least_triangle_there ts h s b)
     (reached_back ts t (least_triangle ts s) (subst (IsReached ts t) (sym e) (least_triangle_there ts h t c)))
 
 -- the least triangle is its own
-pub least_is_first : (ts : List (List ℤ)) → IsTriangulation ts → (t : ℕ) → t < length ts → is_first_triangle ts (least_triangle ts t) ≡ true
+pub least_is_first : (ts : List (List ℤ)) → IsTriangulation ts → (t : ℕ) → t < length ts
+    → is_first_triangle ts (least_triangle ts t) ≡ true
 least_is_first ts h t b =
     eq-eqb (least_triangle ts (least_triangle ts t)) (least_triangle ts t)
-    (sym (least_triangle_same ts h t (least_triangle ts t) b (least_triangle_below ts h t b) (least_triangle_there ts h t b)))
+    (sym (least_triangle_same ts h t (least_triangle ts t) b (least_triangle_below ts h t b)
+    (least_triangle_there ts h t b)))
 
 -- a triangle that none before it reaches is the least
-pub first_if_none : (ts : List (List ℤ)) → IsTriangulation ts → (t : ℕ) → t < length ts → ((s : ℕ) → s < t → IsReached ts s t → ⊥)
+pub first_if_none : (ts : List (List ℤ)) → IsTriangulation ts → (t : ℕ) → t < length ts
+    → ((s : ℕ) → s < t → IsReached ts s t → ⊥)
     → is_first_triangle ts t ≡ true
 first_if_none ts h t b none =
     elim (cases_lt (least_triangle ts t) t) [
-      | inl c ↦ absurd (none (least_triangle ts t) c (reached_back ts t (least_triangle ts t) (least_triangle_there ts h t b)))
-      | inr c ↦ eq-eqb (least_triangle ts t) t (omega (arith, least_triangle_least ts h t t b b (reached_here ts t t refl)))
+      | inl c ↦
+          absurd (none (least_triangle ts t) c
+          (reached_back ts t (least_triangle ts t) (least_triangle_there ts h t b)))
+      | inr c ↦
+          eq-eqb (least_triangle ts t) t (omega (arith, least_triangle_least ts h t t b b (reached_here ts t t refl)))
     ]
 
 -- ---- the numbers
@@ -102,7 +133,11 @@ component_ordered ts h s t b c order =
 
 component_same : (ts : List (List ℤ)) → IsTriangulation ts → (s t : ℕ) → s < length ts → t < length ts
     → (component_of ts s ≡ component_of ts t) ↔ IsReached ts s t
-component_same ts h s t b c = (λ e. reached_of_least ts h s t b c (same_least e), λ r. ap (first_triangles ts) (least_triangle_same ts h s t b c r))
+component_same ts h s t b c = (
+  λ e. reached_of_least ts h s t b c (same_least e),
+  λ r. ap (first_triangles ts)
+      (least_triangle_same ts h s t b c r),
+)
   where
     same_least : component_of ts s ≡ component_of ts t → least_triangle ts s ≡ least_triangle ts t
     same_least e =
@@ -115,11 +150,14 @@ component_same ts h s t b c = (λ e. reached_of_least ts h s t b c (same_least e
               ]
         ]
 
-component_within : (ts : List (List ℤ)) → IsTriangulation ts → (t : ℕ) → t < length ts → component_of ts t < component_count ts
+component_within : (ts : List (List ℤ)) → IsTriangulation ts → (t : ℕ) → t < length ts
+    → component_of ts t < component_count ts
 component_within ts h t b =
-    passing-grows (is_first_triangle ts) (least_triangle ts t) (length ts) (least_is_first ts h t b) (least_triangle_below ts h t b)
+    passing-grows (is_first_triangle ts) (least_triangle ts t) (length ts) (least_is_first ts h t b)
+    (least_triangle_below ts h t b)
 
-component_used : (ts : List (List ℤ)) (k : ℕ) → k < component_count ts → (t : ℕ) × (t < length ts) × (component_of ts t ≡ k)
+component_used : (ts : List (List ℤ)) (k : ℕ) → k < component_count ts
+    → (t : ℕ) × (t < length ts) × (component_of ts t ≡ k)
 component_used ts k b =
     let (t, below, first, is) = numbered (is_first_triangle ts) (length ts) k b in
     (t, below, ap (first_triangles ts) (eqb-true (least_triangle ts t) t first) ∙ is)
@@ -131,8 +169,10 @@ one_if_connected ts h connected =
       | inl many ↦
           (let (t, below, is) = component_used ts 1 many in
           let (u, within, none) = component_used ts 0 (omega arith) in
-          let same : component_of ts 0 ≡ component_of ts t = (component_same ts h 0 t h.some below).1 (connected.reached t below) in
-          let other : component_of ts 0 ≡ component_of ts u = (component_same ts h 0 u h.some within).1 (connected.reached u within) in
+          let same : component_of ts 0 ≡ component_of ts t =
+          (component_same ts h 0 t h.some below).1 (connected.reached t below) in
+          let other : component_of ts 0 ≡ component_of ts u =
+          (component_same ts h 0 u h.some within).1 (connected.reached u within) in
           absurd (omega arith))
     ]
 
@@ -144,11 +184,14 @@ connected_if_one ts h one = record {
 
 -- one triangle more, as a loop counts them
 pub first_triangles-more : (ts : List (List ℤ)) (t least : ℕ) → least ≡ least_triangle ts t
-    → ((least ≡ t) → first_triangles ts (t + 1) ≡ first_triangles ts t + 1) × ((least ≢ t) → first_triangles ts (t + 1) ≡ first_triangles ts t)
+    → ((least ≡ t) → first_triangles ts (t + 1) ≡ first_triangles ts t + 1)
+    × ((least ≢ t) → first_triangles ts (t + 1) ≡ first_triangles ts t)
 first_triangles-more ts t least e =
     let more : t + 1 ≡ suc t = omega arith in (
-      λ d. ap (first_triangles ts) more ∙ passing-yes (is_first_triangle ts) t (eq-eqb (least_triangle ts t) t (sym e ∙ d)),
-      λ ne. ap (first_triangles ts) more ∙ passing-no (is_first_triangle ts) t (ne_eqb (least_triangle ts t) t (λ d. ne (e ∙ d))),
+      λ d. ap (first_triangles ts) more
+          ∙ passing-yes (is_first_triangle ts) t (eq-eqb (least_triangle ts t) t (sym e ∙ d)),
+      λ ne. ap (first_triangles ts) more
+          ∙ passing-no (is_first_triangle ts) t (ne_eqb (least_triangle ts t) t (λ d. ne (e ∙ d))),
     )
 
 pub first_triangles_few : (ts : List (List ℤ)) (t : ℕ) → first_triangles ts t ≤ t
@@ -161,11 +204,13 @@ not_three : (a b c : ℤ) → a ≢ b → b ≢ c → c ≢ a → (inverse a ≡
     → (inverse b ≡ a) ⊎ ((inverse b ≡ b) ⊎ (inverse b ≡ c)) → (inverse c ≡ a) ⊎ ((inverse c ≡ b) ⊎ (inverse c ≡ c)) → ⊥
 not_three a b c ab bc ca (inl e) q r = not_own_inverse a (sym e)
 not_three a b c ab bc ca (inr (inl e)) q (inl f) = bc (sym (sym (inverse-inverse c) ∙ ap inverse f ∙ e))
-not_three a b c ab bc ca (inr (inl e)) q (inr (inl f)) = ca (sym (inverse-inverse c) ∙ ap inverse (f ∙ sym e) ∙ inverse-inverse a)
+not_three a b c ab bc ca (inr (inl e)) q (inr (inl f)) =
+    ca (sym (inverse-inverse c) ∙ ap inverse (f ∙ sym e) ∙ inverse-inverse a)
 not_three a b c ab bc ca (inr (inl e)) q (inr (inr f)) = not_own_inverse c (sym f)
 not_three a b c ab bc ca (inr (inr e)) (inl f) r = bc (sym (inverse-inverse b) ∙ ap inverse f ∙ e)
 not_three a b c ab bc ca (inr (inr e)) (inr (inl f)) r = not_own_inverse b (sym f)
-not_three a b c ab bc ca (inr (inr e)) (inr (inr f)) r = ab (sym (inverse-inverse a) ∙ ap inverse (e ∙ sym f) ∙ inverse-inverse b)
+not_three a b c ab bc ca (inr (inr e)) (inr (inr f)) r =
+    ab (sym (inverse-inverse a) ∙ ap inverse (e ∙ sym f) ∙ inverse-inverse b)
 
 -- a side of triangle t whose other side lies in another triangle
 record Beside (ts : List (List ℤ)) (t : ℕ) : Type 0 where
@@ -186,7 +231,8 @@ some_beside ts h t a b c g =
                   | inr ne ↦ record { side = c; label = label c g.third.counted; here = g.third.triangle; apart = ne }
                   | inl in_c ↦
                       absurd
-                      (not_three a b c g.first_second g.second_third g.third_first (among a g.first.counted in_a) (among b g.second.counted in_b)
+                      (not_three a b c g.first_second g.second_third g.third_first (among a g.first.counted in_a)
+                      (among b g.second.counted in_b)
                       (among c g.third.counted in_c))
                 ]
           ]
@@ -197,7 +243,8 @@ some_beside ts h t a b c g =
 
     among : (x : ℤ) → 0 < times x (labels_of ts) → triangle_of ts (inverse x) ≡ t
         → (inverse x ≡ a) ⊎ ((inverse x ≡ b) ⊎ (inverse x ≡ c))
-    among x counted at = g.only (inverse x) (omega (arith, counted_once ts h (inverse x) (inverse_label ts x (label x counted)))) at
+    among x counted at =
+        g.only (inverse x) (omega (arith, counted_once ts h (inverse x) (inverse_label ts x (label x counted)))) at
 
 beside : (ts : List (List ℤ)) → IsTriangulation ts → (t : ℕ) → t < length ts
     → (x : ℤ) × IsLabel ts x × (triangle_of ts x ≡ t) × (triangle_of ts (inverse x) ≢ t)
@@ -221,7 +268,8 @@ connection_laws ts h = record {
   beside = beside ts h;
 }
   where
-    least_below : (s t : ℕ) → t < length ts → IsReached ts t s → (s < length ts) ⊎ (length ts ≤ s) → least_triangle ts t ≤ s
+    least_below : (s t : ℕ) → t < length ts → IsReached ts t s → (s < length ts) ⊎ (length ts ≤ s)
+        → least_triangle ts t ≤ s
     least_below s t b r (inl c) = least_triangle_least ts h t s b c r
     least_below s t b r (inr c) = omega (arith, least_triangle_below ts h t b)
 

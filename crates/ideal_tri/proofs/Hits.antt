@@ -1,11 +1,12 @@
 -- How often the labels of a list hit an edge.
 --
--- Each label hits one edge, so one more label x in front of a list raises the number at the edge of x by one and leaves all
--- others. By induction on the list: an edge is hit where some entry is of it, and hit once at most where one entry at most
--- is of it. And if all labels are of the first n edges, the sum over these edges of how often each is hit is the length
--- of the list. So labels that hit each of n edges once are n labels; and where n labels hit no edge twice, the sum is n
--- with no part above 1, and each part is 1.
-use Rattle.std.proofs.Common.{ℕ, zero, suc, ℤ, pos, Bool, true, cond, List, [], ◌∷◌, ◌≡◌, ◌≢◌, ◌≤◌, ◌<◌, ◌+◌, inl, inr, refl, sym, ◌∙◌, ap, subst, arith, length, get_or, nat_eq, All, eq-eqb, ne_eqb}
+-- Each label hits one edge, so one more label x in front of a list raises the number at the edge of x by one and leaves
+-- all others. By induction on the list: an edge is hit where some entry is of it, and hit once at most where one entry
+-- at most is of it. And if all labels are of the first n edges, the sum over these edges of how often each is hit is
+-- the length of the list. So labels that hit each of n edges once are n labels; and where n labels hit no edge twice,
+-- the sum is n with no part above 1, and each part is 1.
+use Rattle.std.proofs.Common.{ℕ, zero, suc, ℤ, pos, Bool, true, cond, List, [], ◌∷◌, ◌≡◌, ◌≢◌, ◌≤◌, ◌<◌, ◌+◌, inl, inr}
+use Rattle.std.proofs.Common.{refl, sym, ◌∙◌, ap, subst, arith, length, get_or, nat_eq, All, eq-eqb, ne_eqb}
 use Rattle.std.proofs.lemmas.Bool.{cases_eq, cases_lt}
 use Rattle.std.proofs.lemmas.List.Sums.{sum_by-cons, get_or-le-sum_by}
 use Rattle.std.proofs.lemmas.List.Elements.{All-head, All-tail}
@@ -37,10 +38,12 @@ hits-le x xs e =
 pub hit_at : (xs : List ℤ) (i e : ℕ) → i < length xs → edge_of (get_or xs i (pos 0)) ≡ e → 1 ≤ hits xs e
 hit_at xs i e below is_e =
     let hit : nat_eq (edge_of (get_or xs i (pos 0))) e ≡ true = eq-eqb (edge_of (get_or xs i (pos 0))) e is_e in
-    subst (λ (b : Bool). cond b 1 0 ≤ hits xs e) hit (get_or-le-sum_by (λ y. cond (nat_eq (edge_of y) e) 1 0) xs i (pos 0) below)
+    subst (λ (b : Bool). cond b 1 0 ≤ hits xs e) hit
+    (get_or-le-sum_by (λ y. cond (nat_eq (edge_of y) e) 1 0) xs i (pos 0) below)
 
 -- an edge that is hit is the edge of an entry
-pub place_of_hit : (xs : List ℤ) (e : ℕ) → 1 ≤ hits xs e → (i : ℕ) × (i < length xs) × (edge_of (get_or xs i (pos 0)) ≡ e)
+pub place_of_hit : (xs : List ℤ) (e : ℕ) → 1 ≤ hits xs e
+    → (i : ℕ) × (i < length xs) × (edge_of (get_or xs i (pos 0)) ≡ e)
 place_of_hit [] e h = absurd (omega arith)
 place_of_hit (x ∷ xs) e h =
     elim (cases_eq (edge_of x) e) [
@@ -64,7 +67,8 @@ one_place (x ∷ xs) e (suc i) (suc j) once i_in j_in i_is j_is =
 
 -- and conversely
 pub hits_le_one : (xs : List ℤ) (e : ℕ)
-    → ((i j : ℕ) → i < length xs → j < length xs → edge_of (get_or xs i (pos 0)) ≡ e → edge_of (get_or xs j (pos 0)) ≡ e → i ≡ j) → hits xs e ≤ 1
+    → ((i j : ℕ) → i < length xs → j < length xs → edge_of (get_or xs i (pos 0)) ≡ e → edge_of (get_or xs j (pos 0)) ≡
+    e → i ≡ j) → hits xs e ≤ 1
 hits_le_one [] e h = omega arith
 hits_le_one (x ∷ xs) e h =
     elim (cases_eq (edge_of x) e) [
@@ -111,14 +115,20 @@ sum_below-hits [] n h = none n
     none zero = refl
     none (suc m) = omega (arith, none m)
 sum_below-hits (x ∷ xs) n h =
-    omega (arith, sum_below-cons x xs n (All-head (λ y. edge_of y < n) x xs h), sum_below-hits xs n (All-tail (λ y. edge_of y < n) x xs h))
+    omega (
+      arith,
+      sum_below-cons x xs n (All-head (λ y. edge_of y < n) x xs h),
+      sum_below-hits xs n
+          (All-tail (λ y. edge_of y < n) x xs h),
+    )
 
 sum_below-ones : (n : ℕ) (f : ℕ → ℕ) → ((e : ℕ) → e < n → f e ≡ 1) → sum_below n f ≡ n
 sum_below-ones zero f h = refl
 sum_below-ones (suc n) f h = omega (arith, h n (omega arith), sum_below-ones n f (λ e below. h e (omega arith)))
 
 -- labels that hit each of n edges once are n
-pub length_by_hits : (xs : List ℤ) (n : ℕ) → All (λ x. edge_of x < n) xs → ((e : ℕ) → e < n → hits xs e ≡ 1) → length xs ≡ n
+pub length_by_hits : (xs : List ℤ) (n : ℕ) → All (λ x. edge_of x < n) xs → ((e : ℕ) → e < n → hits xs e ≡ 1)
+    → length xs ≡ n
 length_by_hits xs n labels once = sym (sum_below-hits xs n labels) ∙ sum_below-ones n (hits xs) once
 
 sum_below-le : (n : ℕ) (f : ℕ → ℕ) → ((e : ℕ) → f e ≤ 1) → sum_below n f ≤ n

@@ -2,7 +2,7 @@
 use Rattle.std.proofs.Common.{ℤ, pos, negsuc, Bool, true, false, List, ◌≡◌, ◌≢◌, ◌⊎◌, inl, inr, refl, sym, ◌∙◌, ap}
 use Rattle.std.specs.Ordering.{int_eq}
 use Rattle.std.proofs.lemmas.Bool.Decides.{Decides-int_eq, not_from_Decides}
-use Rattle.ideal_tri.specs.Labels.{inverse, edge_of}
+use Rattle.ideal_tri.specs.Labels.{inverse, edge_of, with_sign_of}
 use Rattle.ideal_tri.specs.Triangulations.{IsLabel}
 use Rattle.ideal_tri.specs.LabelLaws.{LabelLaws}
 
@@ -46,6 +46,14 @@ pub edge_of-inverse : (x : ℤ) → edge_of (inverse x) ≡ edge_of x
 edge_of-inverse (pos n) = refl
 edge_of-inverse (negsuc n) = refl
 
+pub edge_of-with_sign_of : (x y : ℤ) → edge_of (with_sign_of x y) ≡ edge_of y
+edge_of-with_sign_of (pos n) y = refl
+edge_of-with_sign_of (negsuc n) y = edge_of-inverse y
+
+pub with_sign_of-twice : (x y : ℤ) → with_sign_of x (with_sign_of x y) ≡ y
+with_sign_of-twice (pos n) y = refl
+with_sign_of-twice (negsuc n) y = inverse-inverse y
+
 pub inverse_label : (triples : List (List ℤ)) (x : ℤ) → IsLabel triples x → IsLabel triples (inverse x)
 inverse_label triples (pos n) h = h
 inverse_label triples (negsuc n) h = h
@@ -57,6 +65,8 @@ label_laws = record {
   edge = edge_of-inverse;
   of_edge = two_labels;
   label = inverse_label;
+  signed_edge = edge_of-with_sign_of;
+  signed_twice = with_sign_of-twice;
   same_or_not = same_or_not;
   test_same = int_eq-same;
   test_other = int_eq-other;

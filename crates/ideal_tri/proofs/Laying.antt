@@ -1,5 +1,6 @@
 -- Triples that pass all tests are a triangulation, and the fields that are made of them hold it.
-use Rattle.std.proofs.Common.{ℕ, ℤ, List, ◌++◌, ◌≡◌, ◌≤◌, ◌+◌, ◌-◌, refl, sym, ◌∙◌, ap, subst, arith, length, take, drop, length-append}
+use Rattle.std.proofs.Common.{ℕ, ℤ, List, ◌++◌, ◌≡◌, ◌≤◌, ◌+◌, ◌-◌, refl, sym, ◌∙◌, ap, subst, arith, length, take}
+use Rattle.std.proofs.Common.{drop, length-append}
 use Rattle.std.proofs.lemmas.List.{take_at, drop_at}
 use Rattle.ideal_tri.specs.declared.tri.TheConstants.{TRIANGLES}
 use Rattle.ideal_tri.specs.Triangulations.{IsTriangulation}
@@ -18,10 +19,12 @@ triangulation ts places h =
       labels = label_counts ts all;
     }
 
-pub view_again : (ts sides : List (List ℤ)) → sides ≡ ts ++ spare_triples (TRIANGLES - length ts) → take (length ts) sides ≡ ts
+pub view_again : (ts sides : List (List ℤ)) → sides ≡ ts ++ spare_triples (TRIANGLES - length ts)
+    → take (length ts) sides ≡ ts
 view_again ts sides e = ap (take (length ts)) e ∙ take_at ts (spare_triples (TRIANGLES - length ts)) (length ts) refl
 
-pub laid_out : (ts sides : List (List ℤ)) (places : List ℕ) → IsGlued ts places → IsTriangulation ts → sides ≡ ts ++ spare_triples (TRIANGLES - length ts)
+pub laid_out : (ts sides : List (List ℤ)) (places : List ℕ) → IsGlued ts places → IsTriangulation ts
+    → sides ≡ ts ++ spare_triples (TRIANGLES - length ts)
     → IsLaidOut (length ts) sides places
 laid_out ts sides places h sound e =
     let fits : length ts ≤ TRIANGLES = small_size ts h.size in

@@ -7,6 +7,7 @@ pub mod Numbering
 pub mod Nearness
 pub mod Components
 pub mod Laying
+pub mod Refusals
 pub mod Labels
 pub mod Reduction
 pub mod Rotations
@@ -21,7 +22,9 @@ pub mod Flips
 pub mod FlippedTriangulation
 pub mod Turning
 pub mod Merging
+pub mod Naming
 pub mod Trees
+pub mod Planting
 pub mod Forest
 pub mod Vertices
 pub mod Tables

@@ -1,7 +1,12 @@
--- A graph with m edges and C parts has at most m + C vertices: along each edge the name of one vertex is replaced by that of
--- the other. At first each vertex has its own name. An edge takes one name away at most; in the end all vertices of a part
--- have one name, so at most C vertices still have their own.
-use Rattle.std.proofs.Common.{ℕ, zero, suc, ℤ, Bool, true, false, cond, List, [], ◌∷◌, ◌≡◌, ◌≢◌, ◌≤◌, ◌<◌, ◌+◌, ◌⊎◌, inl, inr, refl, sym, ◌∙◌, ap, arith, length, get_or}
+-- A graph with m edges and C parts has at most m + C vertices.
+--
+-- Each vertex has a name, at first its own. Along each edge the name of one end is replaced everywhere by the name of
+-- the other. Vertices with one name keep one name, and the two ends of each edge have one name from then on. A step
+-- takes its own name from one vertex at most. So at least as many vertices as there are, less m, still have their own
+-- name at the end. Where the edges join all vertices of a part, these have one name, which is that of at most one of
+-- them. So at most C vertices still have their own name.
+use Rattle.std.proofs.Common.{ℕ, zero, suc, ℤ, Bool, true, false, cond, List, [], ◌∷◌, ◌≡◌, ◌≢◌, ◌≤◌, ◌<◌, ◌+◌, ◌⊎◌}
+use Rattle.std.proofs.Common.{inl, inr, refl, sym, ◌∙◌, ap, arith, length, get_or}
 use Rattle.std.specs.List.{All, count_by}
 use Rattle.std.specs.Ordering.{int_eq}
 use Rattle.std.proofs.lemmas.Bool.{cases_lt}
@@ -17,7 +22,8 @@ merge f a b x = cond (int_eq (f x) (f a)) (f b) (f x)
 
 -- the two have one name afterwards
 pub merge_joins : (f : ℤ → ℤ) (a b : ℤ) → merge f a b a ≡ merge f a b b
-merge_joins f a b = ap (λ (t : Bool). cond t (f b) (f a)) (int_eq-same (f a) (f a) refl) ∙ sym (other (same_or_not (f b) (f a)))
+merge_joins f a b =
+    ap (λ (t : Bool). cond t (f b) (f a)) (int_eq-same (f a) (f a) refl) ∙ sym (other (same_or_not (f b) (f a)))
   where
     other : (f b ≡ f a) ⊎ (f b ≢ f a) → merge f a b b ≡ f b
     other (inl e) = ap (λ (t : Bool). cond t (f b) (f b)) (int_eq-same (f b) (f a) e)
@@ -102,7 +108,8 @@ named-nil is h (suc k) = omega (arith, named-nil is h k, none (is k))
     none true = refl
     none false = refl
 
-named-cons : (is : ℕ → Bool) (h : ℕ → ℤ) (n : ℕ) (x : ℤ) (xs : List ℤ) → named is h n (x ∷ xs) ≡ named_at is h n x + named is h n xs
+named-cons : (is : ℕ → Bool) (h : ℕ → ℤ) (n : ℕ) (x : ℤ) (xs : List ℤ)
+    → named is h n (x ∷ xs) ≡ named_at is h n x + named is h n xs
 named-cons is h zero x xs = omega arith
 named-cons is h (suc k) x xs = omega (arith, named-cons is h k x xs, here (is k))
   where
@@ -111,7 +118,8 @@ named-cons is h (suc k) x xs = omega (arith, named-cons is h k x xs, here (is k)
     here false = omega arith
 
 -- each name once at most
-named_few : (is : ℕ → Bool) (h : ℕ → ℤ) (n : ℕ) (xs : List ℤ) → ((c : ℤ) → times c xs ≤ 1) → named is h n xs ≤ passing is n
+named_few : (is : ℕ → Bool) (h : ℕ → ℤ) (n : ℕ) (xs : List ℤ) → ((c : ℤ) → times c xs ≤ 1)
+    → named is h n xs ≤ passing is n
 named_few is h zero xs once = omega arith
 named_few is h (suc k) xs once = omega (arith, named_few is h k xs once, passing-suc is k, here (is k))
   where
@@ -126,7 +134,8 @@ named_here is h (suc n) k x b e d =
       | inl c ↦ omega (arith, named_here is h n k x c e d)
       | inr c ↦
           (let same : k ≡ n = omega arith in
-          let one : cond (is k) (same_at (h k) x) 0 ≡ 1 = ap (λ (t : Bool). cond t (same_at (h k) x) 0) e ∙ same_at_yes (h k) x d in
+          let one : cond (is k) (same_at (h k) x) 0 ≡ 1 =
+          ap (λ (t : Bool). cond t (same_at (h k) x) 0) e ∙ same_at_yes (h k) x d in
           omega (arith, ap (λ (i : ℕ). cond (is i) (same_at (h i) x) 0) same))
     ]
 
@@ -137,7 +146,8 @@ pub record IsNamed (f : ℤ → ℤ) (is : ℕ → Bool) (h : ℕ → ℤ) (n : 
   pub name : f x ≡ h (g x)
 
 -- if each part has one name, at most one of each is its own name
-parts_own : (f : ℤ → ℤ) (is : ℕ → Bool) (h : ℕ → ℤ) (n : ℕ) (g : ℤ → ℕ) (xs : List ℤ) → All (IsNamed f is h n g) xs → own f xs ≤ named is h n xs
+parts_own : (f : ℤ → ℤ) (is : ℕ → Bool) (h : ℕ → ℤ) (n : ℕ) (g : ℤ → ℕ) (xs : List ℤ) → All (IsNamed f is h n g) xs
+    → own f xs ≤ named is h n xs
 parts_own f is h n g [] all = omega arith
 parts_own f is h n g (x ∷ xs) all =
     let later : own f xs ≤ named is h n xs = parts_own f is h n g xs (All-tail (IsNamed f is h n g) x xs all) in
@@ -145,7 +155,14 @@ parts_own f is h n g (x ∷ xs) all =
     elim (same_or_not (f x) x) [
       | inr ne ↦ omega (arith, own-cons f x xs, named-cons is h n x xs, own_at_no f x ne)
       | inl e ↦
-          omega (arith, own-cons f x xs, named-cons is h n x xs, own_at-le f x, named_here is h n (g x) x here.below here.numbered (sym e ∙ here.name))
+          omega (
+            arith,
+            own-cons f x xs,
+            named-cons is h n x xs,
+            own_at-le f x,
+            named_here is h n (g x) x here.below
+                here.numbered (sym e ∙ here.name),
+          )
     ]
 
 -- ---- along a list of edges, each named by one end; p gives the other
@@ -164,7 +181,8 @@ merged_joins p f [] k d b = absurd (omega arith)
 merged_joins p f (z ∷ edges) zero d b = merged_keeps p (merge f z (p z)) edges z (p z) (merge_joins f z (p z))
 merged_joins p f (z ∷ edges) (suc k) d b = merged_joins p (merge f z (p z)) edges k d (omega arith)
 
-merged_loses : (p f : ℤ → ℤ) (edges xs : List ℤ) → ((c : ℤ) → times c xs ≤ 1) → own f xs ≤ own (merged p f edges) xs + length edges
+merged_loses : (p f : ℤ → ℤ) (edges xs : List ℤ) → ((c : ℤ) → times c xs ≤ 1)
+    → own f xs ≤ own (merged p f edges) xs + length edges
 merged_loses p f [] xs once = omega arith
 merged_loses p f (z ∷ edges) xs once =
     let first : own f xs ≤ own (merge f z (p z)) xs + times (f z) xs = merge_loses f z (p z) xs in
@@ -173,7 +191,14 @@ merged_loses p f (z ∷ edges) xs once =
     omega (arith, once (f z))
 
 -- where the edges join each part, there are at most as many names more than edges as there are parts
-pub names_of_parts : (p f : ℤ → ℤ) (edges xs : List ℤ) (is : ℕ → Bool) (h : ℕ → ℤ) (n : ℕ) (g : ℤ → ℕ) → ((d : ℤ) → times d xs ≤ 1)
+pub names_of_parts : (p f : ℤ → ℤ) (edges xs : List ℤ) (is : ℕ → Bool) (h : ℕ → ℤ) (n : ℕ) (g : ℤ → ℕ)
+    → ((d : ℤ) → times d xs ≤ 1)
     → All (IsNamed (merged p f edges) is h n g) xs → own f xs ≤ length edges + passing is n
 names_of_parts p f edges xs is h n g once all =
-    omega (arith, merged_loses p f edges xs once, parts_own (merged p f edges) is h n g xs all, named_few is h n xs once)
+    omega (
+      arith,
+      merged_loses p f edges xs once,
+      parts_own (merged p f edges) is h n g xs all,
+      named_few is h n xs
+          once,
+    )

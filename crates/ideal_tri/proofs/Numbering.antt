@@ -1,5 +1,13 @@
 -- How many numbers below k pass a test: the numbers that pass are numbered in their order.
-use Rattle.std.proofs.Common.{ℕ, zero, suc, Bool, true, false, cond, [], ◌≡◌, ◌≤◌, ◌<◌, ◌+◌, ◌⊎◌, inl, inr, sym, ◌∙◌, ap, subst, arith}
+--
+-- Let c k be how many numbers below k pass. It grows by one past each number that passes, and stays past the others.
+-- So numbers that pass have different counts, in their order, and each number j below c n is the count of one: the
+-- last number k at which the count is still j passes.
+--
+-- Where each number that passes one test passes another, no more pass the first; and fewer do where some number passes
+-- the second alone. Whether any number below n passes is found by trying them all.
+use Rattle.std.proofs.Common.{ℕ, zero, suc, Bool, true, false, cond, [], ◌≡◌, ◌≤◌, ◌<◌, ◌+◌, ◌⊎◌, inl, inr, ap, subst}
+use Rattle.std.proofs.Common.{arith}
 use Rattle.std.specs.List.{count_by, range_with_len}
 use Rattle.std.proofs.lemmas.Bool.{cases_Bool, cases_lt}
 use Rattle.std.proofs.lemmas.List.Sums.{sum_by-cons}
@@ -17,14 +25,21 @@ one_yes p k e = ap (λ (b : Bool). cond b 1 0) e
 one_no : (p : ℕ → Bool) (k : ℕ) → p k ≡ false → one_at p k ≡ 0
 one_no p k e = ap (λ (b : Bool). cond b 1 0) e
 
-counted-suc : (p : ℕ → Bool) (a n : ℕ) → count_by p (range_with_len a (suc n)) ≡ count_by p (range_with_len a n) + one_at p (a + n)
+counted-suc : (p : ℕ → Bool) (a n : ℕ)
+    → count_by p (range_with_len a (suc n)) ≡ count_by p (range_with_len a n) + one_at p (a + n)
 counted-suc p a zero =
     let here : a ≡ a + 0 = omega arith in
     omega (arith, sum_by-cons (one_at p) a [], ap (one_at p) here)
 counted-suc p a (suc n) =
     let there : a + 1 + n ≡ a + suc n = omega arith in
-    omega
-    (arith, sum_by-cons (one_at p) a (range_with_len (a + 1) (suc n)), sum_by-cons (one_at p) a (range_with_len (a + 1) n), counted-suc p (a + 1) n, ap (one_at p) there)
+    omega (
+      arith,
+      sum_by-cons (one_at p) a (range_with_len (a + 1) (suc n)),
+      sum_by-cons (one_at p) a
+          (range_with_len (a + 1) n),
+      counted-suc p (a + 1) n,
+      ap (one_at p) there,
+    )
 
 pub passing-suc : (p : ℕ → Bool) (k : ℕ) → passing p (suc k) ≡ passing p k + one_at p k
 passing-suc p k =
@@ -83,7 +98,8 @@ passing-subset p q more (suc n) =
       | inr e ↦ omega (arith, passing-no p n e, passing-suc q n, passing-subset p q more n)
     ]
 
-pub passing-fewer : (p q : ℕ → Bool) → ((k : ℕ) → p k ≡ true → q k ≡ true) → (k n : ℕ) → k < n → p k ≡ false → q k ≡ true → passing p n < passing q n
+pub passing-fewer : (p q : ℕ → Bool) → ((k : ℕ) → p k ≡ true → q k ≡ true) → (k n : ℕ) → k < n → p k ≡ false
+    → q k ≡ true → passing p n < passing q n
 passing-fewer p q more k zero b e d = omega arith
 passing-fewer p q more k (suc n) b e d =
     elim (cases_lt k n) [
@@ -94,8 +110,13 @@ passing-fewer p q more k (suc n) b e d =
           ]
       | inr c ↦
           (let same : k ≡ n = omega arith in
-          omega
-          (arith, passing-no p n (subst (λ (i : ℕ). p i ≡ false) same e), passing-yes q n (subst (λ (i : ℕ). q i ≡ true) same d), passing-subset p q more n))
+          omega (
+            arith,
+            passing-no p n (subst (λ (i : ℕ). p i ≡ false) same e),
+            passing-yes q n
+                (subst (λ (i : ℕ). q i ≡ true) same d),
+            passing-subset p q more n,
+          ))
     ]
 
 -- one below n passes, or none does

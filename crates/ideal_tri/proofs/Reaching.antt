@@ -1,5 +1,11 @@
--- Which triangles can be reached: marks that crossing a side keeps hold all that is reached from a marked triangle.
-use Rattle.std.proofs.Common.{ℕ, ℤ, Bool, true, false, not, List, [], ◌∷◌, ◌≡◌, ◌≢◌, ◌<◌, ◌+◌, suc, zero, ◌⊎◌, inl, inr, refl, sym, ◌∙◌, ap, subst, cond, arith, length, get_or, slice_get, Some, set, replicate}
+-- Which triangles can be reached: marks that crossing a side keeps hold all that is reached from a marked one.
+--
+-- If the marks are kept by crossing any side, they are kept along a walk, letter by letter. So where they hold one
+-- triangle of a component, they hold all of it. On the other hand nothing is marked but what is reached: at the start
+-- the one triangle, and then the triangles across the sides of a marked one. Each turn makes one more triangle done,
+-- so there are no more turns than triangles. The three sides of a triangle are read off its triple.
+use Rattle.std.proofs.Common.{ℕ, ℤ, Bool, true, false, not, List, [], ◌∷◌, ◌≡◌, ◌<◌, ◌+◌, suc, zero, ◌⊎◌, inl, inr}
+use Rattle.std.proofs.Common.{refl, sym, ◌∙◌, ap, subst, cond, arith, length, get_or, slice_get, Some, set, replicate}
 use Rattle.std.specs.List.{count_by}
 use Rattle.std.proofs.lemmas.Bool.{cases_eq, false≢true}
 use Rattle.std.proofs.lemmas.List.{get_or-set_same, get_or-set_other, length-set}
@@ -35,14 +41,16 @@ reached_marked ts marks s t closed r m = walk_marked ts marks closed s t r.lette
 pub marked : (marks : List Bool) (u : ℕ) → u < length marks → get_or (set marks u true) u false ≡ true
 marked marks u b = get_or-set_same marks u true false b
 
-pub still_marked : (marks : List Bool) (u t : ℕ) → u < length marks → get_or marks t false ≡ true → get_or (set marks u true) t false ≡ true
+pub still_marked : (marks : List Bool) (u t : ℕ) → u < length marks → get_or marks t false ≡ true
+    → get_or (set marks u true) t false ≡ true
 still_marked marks u t b m =
     elim (cases_eq t u) [
       | inl e ↦ ap (λ (k : ℕ). get_or (set marks u true) k false) e ∙ marked marks u b
       | inr ne ↦ get_or-set_other marks u t true false ne ∙ m
     ]
 
-pub was_marked : (marks : List Bool) (u t : ℕ) → get_or (set marks u true) t false ≡ true → (get_or marks t false ≡ true) ⊎ (t ≡ u)
+pub was_marked : (marks : List Bool) (u t : ℕ) → get_or (set marks u true) t false ≡ true
+    → (get_or marks t false ≡ true) ⊎ (t ≡ u)
 was_marked marks u t m =
     elim (cases_eq t u) [
       | inl e ↦ inr e
@@ -53,9 +61,11 @@ was_marked marks u t m =
 abbrev pub unmarked : List Bool → ℕ
 unmarked marks = count_by (λ b. not b) marks
 
-pub fewer_unmarked : (marks : List Bool) (t : ℕ) → t < length marks → get_or marks t false ≡ false → unmarked (set marks t true) < unmarked marks
+pub fewer_unmarked : (marks : List Bool) (t : ℕ) → t < length marks → get_or marks t false ≡ false
+    → unmarked (set marks t true) < unmarked marks
 fewer_unmarked marks t b m =
-    let moved : unmarked (set marks t true) + cond (not (get_or marks t false)) 1 0 ≡ unmarked marks + cond (not true) 1 0 =
+    let moved : unmarked (set marks t true) + cond (not (get_or marks t false)) 1 0
+    ≡ unmarked marks + cond (not true) 1 0 =
     sum_by-set (λ v. cond (not v) 1 0) marks t true false b in
     let one : ◌≡◌ {A = ℕ} (cond (not (get_or marks t false)) 1 0) 1 = ap (λ (v : Bool). cond (not v) 1 0) m in
     omega arith
@@ -66,7 +76,8 @@ none_marked (suc n) zero = refl
 none_marked (suc n) (suc t) = none_marked n t
 
 -- at the start one triangle is marked
-pub marked_first : (ts : List (List ℤ)) (start t : ℕ) → get_or (set (replicate TRIANGLES false) start true) t false ≡ true → IsReached ts start t
+pub marked_first : (ts : List (List ℤ)) (start t : ℕ)
+    → get_or (set (replicate TRIANGLES false) start true) t false ≡ true → IsReached ts start t
 marked_first ts start t m =
     elim (was_marked (replicate TRIANGLES false) start t m) [
       | inl old ↦ absurd (false≢true (sym (none_marked TRIANGLES t) ∙ old))
@@ -92,16 +103,20 @@ pub record AreAcross (ts : List (List ℤ)) (t i j k : ℕ) : Type 0 where
 abbrev pub three_marked : List Bool → ℕ → ℕ → ℕ → List Bool
 three_marked marks i j k = set (set (set marks i true) j true) k true
 
-pub neighbour_marked : (ts : List (List ℤ)) (marks : List Bool) (t i j k : ℕ) → IsTriangulation ts → AreAcross ts t i j k
+pub neighbour_marked : (ts : List (List ℤ)) (marks : List Bool) (t i j k : ℕ) → IsTriangulation ts
+    → AreAcross ts t i j k
     → i < length marks → j < length marks → k < length marks → (x : ℤ) → IsLabel ts x → triangle_of ts x ≡ t
     → get_or (three_marked marks i j k) (triangle_of ts (inverse x)) false ≡ true
 neighbour_marked ts marks t i j k h at a b c x l e =
     elim (at.sides.only x (omega (arith, counted_once ts h x l)) e) [
       | inl d ↦ here i (at.is_first ∙ ap (λ (z : ℤ). triangle_of ts (inverse z)) (sym d))
-          (still_marked (set (set marks i true) j true) k i c' (still_marked (set marks i true) j i b' (marked marks i a)))
+          (still_marked (set (set marks i true) j true) k i c'
+          (still_marked (set marks i true) j i b' (marked marks i a)))
       | inr (inl d) ↦ here j (at.is_second ∙ ap (λ (z : ℤ). triangle_of ts (inverse z)) (sym d))
           (still_marked (set (set marks i true) j true) k j c' (marked (set marks i true) j b'))
-      | inr (inr d) ↦ here k (at.is_third ∙ ap (λ (z : ℤ). triangle_of ts (inverse z)) (sym d)) (marked (set (set marks i true) j true) k c')
+      | inr (inr d) ↦
+          here k (at.is_third ∙ ap (λ (z : ℤ). triangle_of ts (inverse z)) (sym d))
+          (marked (set (set marks i true) j true) k c')
     ]
   where
     b' : j < length (set marks i true)
@@ -114,7 +129,8 @@ neighbour_marked ts marks t i j k h at a b c x l e =
         → get_or (three_marked marks i j k) (triangle_of ts (inverse x)) false ≡ true
     here u d m = ap (λ (n : ℕ). get_or (three_marked marks i j k) n false) (sym d) ∙ m
 
-pub neighbour_reached : (ts : List (List ℤ)) (marks : List Bool) (t i j k : ℕ) → IsTriangulation ts → AreAcross ts t i j k
+pub neighbour_reached : (ts : List (List ℤ)) (marks : List Bool) (t i j k : ℕ) → IsTriangulation ts
+    → AreAcross ts t i j k
     → (u : ℕ) → get_or (three_marked marks i j k) u false ≡ true → (get_or marks u false ≡ true) ⊎ IsReached ts t u
 neighbour_reached ts marks t i j k h at u m =
     elim (was_marked (set (set marks i true) j true) k u m) [
@@ -130,14 +146,16 @@ neighbour_reached ts marks t i j k h at u m =
           ]
     ]
   where
-    stepped : (x : ℤ) → 0 < times x (labels_of ts) → triangle_of ts x ≡ t → u ≡ triangle_of ts (inverse x) → IsReached ts t u
+    stepped : (x : ℤ) → 0 < times x (labels_of ts) → triangle_of ts x ≡ t → u ≡ triangle_of ts (inverse x)
+        → IsReached ts t u
     stepped x counted at e =
         subst (λ (n : ℕ). IsReached ts n u) at
         (subst (IsReached ts (triangle_of ts x)) (sym e) (reached_step ts x (label_of_counted ts h x counted)))
 
 -- read off the triple of the triangle
 pub are_across : (ts : List (List ℤ)) → IsTriangulation ts → (t i j k : ℕ) (triple : List ℤ) (a b c : ℤ) → t < length ts
-    → slice_get ts t ≡ Some triple → i ≡ triangle_of ts (inverse (get_or triple 0 a)) → j ≡ triangle_of ts (inverse (get_or triple 1 b))
+    → slice_get ts t ≡ Some triple → i ≡ triangle_of ts (inverse (get_or triple 0 a))
+    → j ≡ triangle_of ts (inverse (get_or triple 1 b))
     → k ≡ triangle_of ts (inverse (get_or triple 2 c)) → AreAcross ts t i j k
 are_across ts h t i j k triple a b c below is p q r =
     let g : HasTriple ts t = triple_at ts h t below in

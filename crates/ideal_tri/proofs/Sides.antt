@@ -1,5 +1,12 @@
 -- Where a label stands, read off the table of places: its triangle, its side there, and the side after it.
-use Rattle.std.proofs.Common.{ℕ, ℤ, pos, Bool, true, false, List, [], ◌∷◌, ◌≡◌, ◌≢◌, ◌≤◌, ◌<◌, ◌+◌, ◌*◌, ◌/◌, ◌%◌, suc, zero, refl, sym, ◌∙◌, ap, subst, if◌then◌else◌, arith, length, take, get_or, length-take-le}
+--
+-- The labels of all triples in a row have side s of triangle i at the place 3 i + s. They are different, so a search
+-- for one of them finds it at its only place: the first triple that has it is triangle i, and it stands there as side
+-- s; the side after it is side s + 1, or side 0 after side 2. The table has the place of each label, so quotient and
+-- remainder by 3 give its triangle and its side. Since all labels of the range stand in the triples, no entry of a
+-- label is empty.
+use Rattle.std.proofs.Common.{ℕ, ℤ, pos, Bool, true, false, List, [], ◌∷◌, ◌≡◌, ◌≢◌, ◌≤◌, ◌<◌, ◌+◌, ◌*◌, ◌/◌, ◌%◌, suc}
+use Rattle.std.proofs.Common.{zero, sym, ◌∙◌, ap, subst, if◌then◌else◌, arith, length, take, get_or, length-take-le}
 use Rattle.std.specs.List.{All}
 use Rattle.std.specs.Ordering.{int_eq}
 use Rattle.std.proofs.lemmas.List.{get_or_default, get_or-take}
@@ -7,7 +14,6 @@ use Rattle.std.proofs.lemmas.List.Concat.{get_or-flat_map}
 use Rattle.std.proofs.lemmas.List.Elements.{All-head, All-tail, All-take, All-from_get_or}
 use Rattle.std.proofs.lemmas.List.Folds.{list_any_at, list_any_none}
 use Rattle.ideal_tri.specs.declared.tri.TheConstants.{NOWHERE, TRIANGLES}
-use Rattle.ideal_tri.specs.Labels.{inverse, edge_of}
 use Rattle.ideal_tri.specs.Triangulations.{labels_of, IsLabel, has_side, triangle_of, place_in, side_of, next_in, next}
 use Rattle.ideal_tri.specs.Refusals.{IsDistinct}
 use Rattle.ideal_tri.specs.inside.Places.{key_of, label_at, IsGlued, IsLaidOut}
@@ -21,7 +27,8 @@ AreTriples ts = All (λ (t : List ℤ). length t ≡ 3) ts
 
 -- ---- the label that stands at a place
 
-label_read : (ts : List (List ℤ)) (i s : ℕ) → AreTriples ts → i < length ts → s < 3 → get_or (labels_of ts) (3 * i + s) (pos 0) ≡ label_at ts i s
+label_read : (ts : List (List ℤ)) (i s : ℕ) → AreTriples ts → i < length ts → s < 3
+    → get_or (labels_of ts) (3 * i + s) (pos 0) ≡ label_at ts i s
 label_read ts i s three b c =
     let before : length (labels_of (take i ts)) ≡ 3 * length (take i ts) =
     length-labels_of (take i ts) (All-take (λ (t : List ℤ). length t ≡ 3) i ts three) in
@@ -30,9 +37,11 @@ label_read ts i s three b c =
     ap (λ (k : ℕ). get_or (labels_of ts) k (pos 0)) (omega arith)
     ∙ get_or-flat_map (λ (t : List ℤ). t) ts i s [] (pos 0) b (omega arith)
 
-pub label_there : (ts : List (List ℤ)) (k : ℕ) → AreTriples ts → k < 3 * length ts → get_or (labels_of ts) k (pos 0) ≡ label_at ts (k / 3) (k % 3)
+pub label_there : (ts : List (List ℤ)) (k : ℕ) → AreTriples ts → k < 3 * length ts
+    → get_or (labels_of ts) k (pos 0) ≡ label_at ts (k / 3) (k % 3)
 label_there ts k three b =
-    ap (λ (n : ℕ). get_or (labels_of ts) n (pos 0)) (omega arith) ∙ label_read ts (k / 3) (k % 3) three (omega arith) (omega arith)
+    ap (λ (n : ℕ). get_or (labels_of ts) n (pos 0)) (omega arith)
+    ∙ label_read ts (k / 3) (k % 3) three (omega arith) (omega arith)
 
 -- labels at different places are different
 apart : (ts : List (List ℤ)) (i r j s : ℕ) → AreTriples ts → IsDistinct (labels_of ts) → r < 3 → s < 3 → j < length ts
@@ -76,7 +85,8 @@ second_side a b c x ne e =
       place =
           ap (λ (v : Bool). if v then 0 else suc (place_in (b ∷ (c ∷ [])) x)) g
           ∙ ap (λ (v : Bool). suc (if v then 0 else suc (place_in (c ∷ []) x))) h;
-      after = ap (λ (v : Bool). if v then b else (if int_eq b x then c else a)) g ∙ ap (λ (v : Bool). if v then c else a) h;
+      after =
+          ap (λ (v : Bool). if v then b else (if int_eq b x then c else a)) g ∙ ap (λ (v : Bool). if v then c else a) h;
     }
 
 third_side : (a b c x : ℤ) → a ≢ x → b ≢ x → c ≡ x → IsSide (a ∷ (b ∷ (c ∷ []))) x 2
@@ -90,10 +100,12 @@ third_side a b c x ne nf e =
           ap (λ (v : Bool). if v then 0 else suc (place_in (b ∷ (c ∷ [])) x)) g
           ∙ ap (λ (v : Bool). suc (if v then 0 else suc (place_in (c ∷ []) x))) h
           ∙ ap (λ (v : Bool). suc (suc (if v then 0 else suc 0))) i;
-      after = ap (λ (v : Bool). if v then b else (if int_eq b x then c else a)) g ∙ ap (λ (v : Bool). if v then c else a) h;
+      after =
+          ap (λ (v : Bool). if v then b else (if int_eq b x then c else a)) g ∙ ap (λ (v : Bool). if v then c else a) h;
     }
 
-is_side : (t : List ℤ) (x : ℤ) (s : ℕ) → length t ≡ 3 → s < 3 → get_or t s (pos 0) ≡ x → ((r : ℕ) → r < s → get_or t r (pos 0) ≢ x) → IsSide t x s
+is_side : (t : List ℤ) (x : ℤ) (s : ℕ) → length t ≡ 3 → s < 3 → get_or t s (pos 0) ≡ x
+    → ((r : ℕ) → r < s → get_or t r (pos 0) ≢ x) → IsSide t x s
 is_side [] x s h b e f = absurd (omega arith)
 is_side (a ∷ []) x s h b e f = absurd (omega arith)
 is_side (a ∷ (b ∷ [])) x s h d e f = absurd (omega arith)
@@ -134,7 +146,8 @@ first_place (t ∷ ts) x (suc i) s three b c e first before =
       after = ap (λ (v : Bool). if v then next_in t x else next ts x) none ∙ later.after;
     }
 
-pub stands : (ts : List (List ℤ)) (x : ℤ) (i s : ℕ) → AreTriples ts → IsDistinct (labels_of ts) → i < length ts → s < 3 → label_at ts i s ≡ x → Stands ts x i s
+pub stands : (ts : List (List ℤ)) (x : ℤ) (i s : ℕ) → AreTriples ts → IsDistinct (labels_of ts) → i < length ts → s < 3
+    → label_at ts i s ≡ x → Stands ts x i s
 stands ts x i s three distinct b c e =
     first_place ts x i s three b c e
     (λ r d same. apart ts i r i s three distinct (omega arith) c b (omega arith) (same ∙ sym e))
@@ -150,7 +163,8 @@ pub record IsFound (ts : List (List ℤ)) (places : List ℕ) (x : ℤ) : Type 0
 pub all_there : (ts : List (List ℤ)) (places : List ℕ) → IsGlued ts places → AreAllLabels ts
 all_there ts places h = all_labels ts h.three_sides h.in_range h.placed.distinct
 
-pub taken : (ts : List (List ℤ)) (places : List ℕ) (x : ℤ) → IsGlued ts places → IsLabel ts x → get_or places (key_of x) 0 ≢ NOWHERE
+pub taken : (ts : List (List ℤ)) (places : List ℕ) (x : ℤ) → IsGlued ts places → IsLabel ts x
+    → get_or places (key_of x) 0 ≢ NOWHERE
 taken ts places x h b e =
     let all : AreAllLabels ts = all_there ts places h in
     let one : count (labels_of ts) x ≡ 1 = all.once x b in
@@ -169,13 +183,15 @@ found ts places x h b =
     record {
       below = below;
       label = label;
-      stands = stands ts x (get_or places (key_of x) 0 / 3) (get_or places (key_of x) 0 % 3) h.three_sides h.placed.distinct
+      stands =
+          stands ts x (get_or places (key_of x) 0 / 3) (get_or places (key_of x) 0 % 3) h.three_sides h.placed.distinct
           (omega arith) (omega arith) label;
     }
 
 -- ---- as the code reads the table
 
-pub is_label_at : (ts : List (List ℤ)) (places : List ℕ) (i s : ℕ) → IsGlued ts places → i < length ts → s < 3 → IsLabel ts (label_at ts i s)
+pub is_label_at : (ts : List (List ℤ)) (places : List ℕ) (i s : ℕ) → IsGlued ts places → i < length ts → s < 3
+    → IsLabel ts (label_at ts i s)
 is_label_at ts places i s h b c =
     let long : length (labels_of ts) ≡ 3 * length ts = length-labels_of ts h.three_sides in
     subst (IsLabel ts) (label_read ts i s h.three_sides b c) (h.in_range (3 * i + s) (pos 0) (omega arith))
@@ -186,7 +202,8 @@ pub record IsRead (ts : List (List ℤ)) (x : ℤ) (n : ℕ) : Type 0 where
   pub side : n % 3 ≡ side_of ts x
   pub within : n / 3 < length ts
 
-pub read : (ts : List (List ℤ)) (places : List ℕ) (x : ℤ) (key n : ℕ) → IsGlued ts places → IsLabel ts x → key ≡ key_of x → n ≡ get_or places key 0
+pub read : (ts : List (List ℤ)) (places : List ℕ) (x : ℤ) (key n : ℕ) → IsGlued ts places → IsLabel ts x
+    → key ≡ key_of x → n ≡ get_or places key 0
     → IsRead ts x n
 read ts places x key n h b e f =
     let here : IsFound ts places x = found ts places x h b in
@@ -212,7 +229,8 @@ next_read ts places x h b =
     )
 
 -- the side after x, read off the array of triples
-pub next_side : (n : ℕ) (sides : List (List ℤ)) (places : List ℕ) (x : ℤ) (i s : ℕ) (d : ℤ) → IsLaidOut n sides places → IsLabel (take n sides) x
+pub next_side : (n : ℕ) (sides : List (List ℤ)) (places : List ℕ) (x : ℤ) (i s : ℕ) (d : ℤ) → IsLaidOut n sides places
+    → IsLabel (take n sides) x
     → i ≡ triangle_of (take n sides) x → s ≡ side_of (take n sides) x
     → (i < TRIANGLES) × (get_or (get_or sides i []) ((s + 1) % 3) d ≡ next (take n sides) x)
 next_side n sides places x i s d h b e f =
@@ -232,7 +250,8 @@ next_side n sides places x i s d h b e f =
     )
 
 -- what the array holds of a triangle are labels
-pub row_labels : (n : ℕ) (sides : List (List ℤ)) (places : List ℕ) (i : ℕ) → IsLaidOut n sides places → i < length (take n sides)
+pub row_labels : (n : ℕ) (sides : List (List ℤ)) (places : List ℕ) (i : ℕ) → IsLaidOut n sides places
+    → i < length (take n sides)
     → All (IsLabel (take n sides)) (get_or sides i [])
 row_labels n sides places i h b =
     let fits : n ≤ TRIANGLES = h.fits in

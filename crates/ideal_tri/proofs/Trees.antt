@@ -1,81 +1,23 @@
 -- Trees of triangles: how one begins, and how it grows across a side.
--- A naming of the corners is meant to be the same all round each vertex. If it is also the same at the two ends of each edge
--- of the marked triangles that no tree crosses, then it is the same on all corners of a marked part of a component. This is
--- kept when a triangle is added across a side: its three corners are joined by its two other sides, which no tree crosses
--- yet, and the crossed side has two corners of the new triangle at its ends. A new tree begins at a triangle that no walk
--- reaches from the marked ones, so that no two trees share a component.
-use Rattle.std.proofs.Common.{ℕ, zero, suc, ℤ, pos, negsuc, Bool, true, false, not, cond, List, [], ◌∷◌, ◌≡◌, ◌≢◌, ◌≤◌, ◌<◌, ◌+◌, ◌*◌, ◌⊎◌, inl, inr, refl, sym, ◌∙◌, ap, subst, arith, length, get_or, set, replicate}
+--
+-- A naming of the corners is meant to be the same all round each vertex. If it is also the same at the two ends of
+-- each edge of the marked triangles that no tree crosses, then it is the same on all corners of the marked part of a
+-- component. This is kept when a triangle is added across a side: its three corners are joined by its two other sides,
+-- which no tree crosses yet, and the crossed side has two corners of the new triangle at its ends. A new tree begins
+-- at a triangle that no walk reaches from the marked ones, so that no two trees share a component. A step marks one
+-- triangle and one edge, and a new tree marks one triangle: the trees cross as many edges as they have triangles
+-- beside the first.
+use Rattle.std.proofs.Common.{ℕ, ℤ, Bool, true, false, List, ◌≡◌, ◌≢◌, ◌≤◌, ◌<◌, ◌+◌, ◌⊎◌, inl, inr, sym, ◌∙◌, ap}
+use Rattle.std.proofs.Common.{subst, arith, length, get_or, set}
 use Rattle.std.proofs.lemmas.Bool.{cases_Bool, cases_eq, false≢true}
-use Rattle.std.proofs.lemmas.List.{length-set, length-replicate, get_or-set_other}
-use Rattle.std.proofs.lemmas.List.Folds.{sum_by-replicate}
-use Rattle.std.proofs.lemmas.List.Sums.{sum_by-cons, sum_by-set}
+use Rattle.std.proofs.lemmas.List.{length-set, get_or-set_other}
 use Rattle.ideal_tri.specs.Labels.{inverse, edge_of}
 use Rattle.ideal_tri.specs.Triangulations.{IsLabel, IsReached, edge_count, triangle_of, next, previous}
 use Rattle.ideal_tri.specs.SurfaceLaws.{TriangleLaws}
-use Rattle.ideal_tri.specs.Vertices.{corner_step}
-use Rattle.ideal_tri.proofs.Labels.{inverse-inverse, inverse_label, edge_of-inverse}
-use Rattle.ideal_tri.proofs.Walks.{reached_here, reached_step, reached_along, reached_back}
-use Rattle.ideal_tri.proofs.Reaching.{IsClosed, reached_marked, marked, still_marked, was_marked, unmarked}
-
--- ---- names of corners
-
--- corners of one vertex have one name
-pub record IsVertexwise (ts : List (List ℤ)) (f : ℤ → ℤ) : Type 0 where
-  pub turns : (x : ℤ) → IsLabel ts x → f (corner_step ts x) ≡ f x
-
--- the two ends of the side x have one name
-abbrev pub IsJoined : List (List ℤ) → (ℤ → ℤ) → ℤ → Type 0
-IsJoined ts f x = f x ≡ f (previous ts x)
-
--- the corner at the tail of a side lies at the vertex of the head of its inverse
-pub tail_name : (ts : List (List ℤ)) → TriangleLaws ts → (f : ℤ → ℤ) → IsVertexwise ts f → (x : ℤ) → IsLabel ts x
-    → f (inverse x) ≡ f (previous ts x)
-tail_name ts h f v x l = ap (λ (z : ℤ). f (inverse z)) (sym (h.round x l)) ∙ v.turns (previous ts x) (h.label (next ts x) (h.label x l))
-
-pub head_name : (ts : List (List ℤ)) → TriangleLaws ts → (f : ℤ → ℤ) → IsVertexwise ts f → (x : ℤ) → IsLabel ts x
-    → f (previous ts (inverse x)) ≡ f x
-head_name ts h f v x l = sym (tail_name ts h f v (inverse x) (inverse_label ts x l)) ∙ ap f (inverse-inverse x)
-
-pub joined_inverse : (ts : List (List ℤ)) → TriangleLaws ts → (f : ℤ → ℤ) → IsVertexwise ts f → (x : ℤ) → IsLabel ts x
-    → IsJoined ts f x → IsJoined ts f (inverse x)
-joined_inverse ts h f v x l e = tail_name ts h f v x l ∙ sym e ∙ sym (head_name ts h f v x l)
-
--- two joined sides of a triangle join its three corners
-three_corners : (ts : List (List ℤ)) → TriangleLaws ts → (f : ℤ → ℤ) (x : ℤ) → IsLabel ts x
-    → IsJoined ts f (next ts x) → IsJoined ts f (previous ts x)
-    → (u : ℤ) → IsLabel ts u → triangle_of ts u ≡ triangle_of ts x → f u ≡ f x
-three_corners ts h f x l a b u m e = go (h.sides x u l m e)
-  where
-    after : f (next ts x) ≡ f x
-    after = a ∙ ap f (h.round x l)
-
-    go : (u ≡ x) ⊎ ((u ≡ next ts x) ⊎ (u ≡ previous ts x)) → f u ≡ f x
-    go (inl d) = ap f d
-    go (inr (inl d)) = ap f d ∙ after
-    go (inr (inr d)) = ap f d ∙ b ∙ ap (λ (z : ℤ). f (next ts z)) (h.round x l) ∙ after
-
-same_edge : (x y : ℤ) → edge_of y ≡ edge_of x → (y ≡ x) ⊎ (y ≡ inverse x)
-same_edge (pos m) (pos n) e = inl (ap pos e)
-same_edge (pos m) (negsuc n) e = inr (ap negsuc e)
-same_edge (negsuc m) (pos n) e = inr (ap pos e)
-same_edge (negsuc m) (negsuc n) e = inl (ap negsuc e)
-
--- ---- marks
-
-pub mark_one : (marks : List Bool) (k : ℕ) → k < length marks → get_or marks k false ≡ false → unmarked (set marks k true) + 1 ≡ unmarked marks
-mark_one marks k b m =
-    let moved : unmarked (set marks k true) + cond (not (get_or marks k false)) 1 0 ≡ unmarked marks + cond (not true) 1 0 =
-    sum_by-set (λ v. cond (not v) 1 0) marks k true false b in
-    let one : ◌≡◌ {A = ℕ} (cond (not (get_or marks k false)) 1 0) 1 = ap (λ (v : Bool). cond (not v) 1 0) m in
-    omega arith
-
-pub none_unmarked : (marks : List Bool) → ((k : ℕ) → k < length marks → get_or marks k false ≡ true) → unmarked marks ≡ 0
-none_unmarked [] h = refl
-none_unmarked (m ∷ marks) h =
-    let here : m ≡ true = h 0 (omega arith) in
-    let later : unmarked marks ≡ 0 = none_unmarked marks (λ k b. h (suc k) (omega arith)) in
-    let zero_here : ◌≡◌ {A = ℕ} (cond (not m) 1 0) 0 = ap (λ (v : Bool). cond (not v) 1 0) here in
-    sum_by-cons (λ v. cond (not v) 1 0) m marks ∙ omega arith
+use Rattle.ideal_tri.proofs.Labels.{two_labels, inverse_label, edge_of-inverse}
+use Rattle.ideal_tri.proofs.Walks.{reached_step, reached_along, reached_back}
+use Rattle.ideal_tri.proofs.Reaching.{marked, still_marked, was_marked, unmarked}
+use Rattle.ideal_tri.proofs.Naming.{IsVertexwise, IsJoined, tail_name, head_name, three_corners, mark_one}
 
 -- ---- a tree that grows
 
@@ -90,15 +32,16 @@ abbrev pub AreJoined : List (List ℤ) → List Bool → List Bool → (ℤ → 
 AreJoined ts reached tree f =
     (x : ℤ) → IsLabel ts x → IsMarked reached (triangle_of ts x) → IsFree tree (edge_of x) → IsJoined ts f x
 
--- the marked triangles, and the marked edges of a forest of so many trees between them: the other edges join all corners
--- of each component as far as it is marked
+-- the marked triangles, and the marked edges of a forest of so many trees between them: the other edges join all
+-- corners of each component as far as it is marked
 pub record Grown (ts : List (List ℤ)) (trees : ℕ) (reached tree : List Bool) : Type 0 where
   pub room : length reached ≡ length ts
   pub sides : length tree ≡ edge_count ts
   pub few : unmarked tree + length ts ≤ unmarked reached + edge_count ts + trees
   pub inside : (x : ℤ) → IsLabel ts x → IsMarked tree (edge_of x) → IsMarked reached (triangle_of ts x)
   pub joins : (f : ℤ → ℤ) → IsVertexwise ts f → AreJoined ts reached tree f
-      → (x y : ℤ) → IsLabel ts x → IsLabel ts y → IsMarked reached (triangle_of ts x) → IsMarked reached (triangle_of ts y)
+      → (x y : ℤ) → IsLabel ts x → IsLabel ts y → IsMarked reached (triangle_of ts x)
+      → IsMarked reached (triangle_of ts y)
       → IsReached ts (triangle_of ts x) (triangle_of ts y) → f x ≡ f y
 
 -- a side of a marked triangle whose other triangle isn't marked
@@ -114,25 +57,28 @@ pub not_both : (marks : List Bool) (k : ℕ) → IsMarked marks k → IsFree mar
 not_both marks k m n = false≢true (sym n ∙ m)
 
 -- the edge isn't in the tree yet
-crossing_free : (ts : List (List ℤ)) (trees : ℕ) (reached tree : List Bool) (x : ℤ) → Grown ts trees reached tree → IsCrossing ts reached x → IsFree tree (edge_of x)
+crossing_free : (ts : List (List ℤ)) (trees : ℕ) (reached tree : List Bool) (x : ℤ) → Grown ts trees reached tree
+    → IsCrossing ts reached x → IsFree tree (edge_of x)
 crossing_free ts trees reached tree x g c =
     elim (marked_or_free tree (edge_of x)) [
       | inl m ↦
           absurd
           (not_both reached (triangle_of ts (inverse x))
-          (g.inside (inverse x) (inverse_label ts x c.label) (ap (λ (k : ℕ). get_or tree k false) (edge_of-inverse x) ∙ m)) c.to)
+          (g.inside (inverse x) (inverse_label ts x c.label)
+          (ap (λ (k : ℕ). get_or tree k false) (edge_of-inverse x) ∙ m)) c.to)
       | inr m ↦ m
     ]
 
 -- an edge of the larger tree has both triangles marked
-inside_more : (ts : List (List ℤ)) → TriangleLaws ts → (trees : ℕ) (reached tree : List Bool) (x : ℤ) → Grown ts trees reached tree → IsCrossing ts reached x
+inside_more : (ts : List (List ℤ)) → TriangleLaws ts → (trees : ℕ) (reached tree : List Bool) (x : ℤ)
+    → Grown ts trees reached tree → IsCrossing ts reached x
     → (y : ℤ) → IsLabel ts y → IsMarked (set tree (edge_of x) true) (edge_of y)
     → IsMarked (set reached (triangle_of ts (inverse x)) true) (triangle_of ts y)
 inside_more ts h trees reached tree x g c y l m =
     elim (was_marked tree (edge_of x) (edge_of y) m) [
       | inl old ↦ still_marked reached (triangle_of ts (inverse x)) (triangle_of ts y) below (g.inside y l old)
       | inr e ↦
-          elim (same_edge x y e) [
+          elim (two_labels y x e) [
             | inl d ↦
                 still_marked reached (triangle_of ts (inverse x)) (triangle_of ts y) below
                 (ap (λ (z : ℤ). get_or reached (triangle_of ts z) false) d ∙ c.from)
@@ -146,16 +92,20 @@ inside_more ts h trees reached tree x g c y l m =
     below = omega (arith, h.triangle (inverse x) (inverse_label ts x c.label), g.room)
 
 -- the other two sides of the new triangle are no edges of the larger tree
-side_free : (ts : List (List ℤ)) (trees : ℕ) (reached tree : List Bool) (x : ℤ) → Grown ts trees reached tree → IsCrossing ts reached x
-    → (y : ℤ) → IsLabel ts y → triangle_of ts y ≡ triangle_of ts (inverse x) → y ≢ inverse x → IsFree (set tree (edge_of x) true) (edge_of y)
+side_free : (ts : List (List ℤ)) (trees : ℕ) (reached tree : List Bool) (x : ℤ) → Grown ts trees reached tree
+    → IsCrossing ts reached x
+    → (y : ℤ) → IsLabel ts y → triangle_of ts y ≡ triangle_of ts (inverse x) → y ≢ inverse x
+    → IsFree (set tree (edge_of x) true) (edge_of y)
 side_free ts trees reached tree x g c y l e ne =
     elim (marked_or_free (set tree (edge_of x) true) (edge_of y)) [
       | inr m ↦ m
       | inl m ↦
           elim (was_marked tree (edge_of x) (edge_of y) m) [
-            | inl old ↦ absurd (not_both reached (triangle_of ts (inverse x)) (ap (λ (k : ℕ). get_or reached k false) (sym e) ∙ g.inside y l old) c.to)
+            | inl old ↦
+                absurd (not_both reached (triangle_of ts (inverse x))
+                (ap (λ (k : ℕ). get_or reached k false) (sym e) ∙ g.inside y l old) c.to)
             | inr same ↦
-                elim (same_edge x y same) [
+                elim (two_labels y x same) [
                   | inl d ↦
                       absurd
                       (not_both reached (triangle_of ts (inverse x))
@@ -166,7 +116,8 @@ side_free ts trees reached tree x g c y l e ne =
     ]
 
 -- the new triangle's corners have the name of the crossed side's ends
-new_corners : (ts : List (List ℤ)) → TriangleLaws ts → (trees : ℕ) (reached tree : List Bool) (x : ℤ) → Grown ts trees reached tree → IsCrossing ts reached x
+new_corners : (ts : List (List ℤ)) → TriangleLaws ts → (trees : ℕ) (reached tree : List Bool) (x : ℤ)
+    → Grown ts trees reached tree → IsCrossing ts reached x
     → (f : ℤ → ℤ) → AreJoined ts (set reached (triangle_of ts (inverse x)) true) (set tree (edge_of x) true) f
     → (u : ℤ) → IsLabel ts u → triangle_of ts u ≡ triangle_of ts (inverse x) → f u ≡ f (inverse x)
 new_corners ts h trees reached tree x g c f joined u m e =
@@ -174,7 +125,8 @@ new_corners ts h trees reached tree x g c f joined u m e =
     let m1 : IsLabel ts (next ts (inverse x)) = h.label (inverse x) l in
     let m2 : IsLabel ts (previous ts (inverse x)) = h.label (next ts (inverse x)) m1 in
     let in1 : triangle_of ts (next ts (inverse x)) ≡ triangle_of ts (inverse x) = h.stays (inverse x) l in
-    let in2 : triangle_of ts (previous ts (inverse x)) ≡ triangle_of ts (inverse x) = h.stays (next ts (inverse x)) m1 ∙ in1 in
+    let in2 : triangle_of ts (previous ts (inverse x)) ≡ triangle_of ts (inverse x) =
+    h.stays (next ts (inverse x)) m1 ∙ in1 in
     three_corners ts h f (inverse x) l
     (side (next ts (inverse x)) m1 in1 (h.moves (inverse x) l).0)
     (side (previous ts (inverse x)) m2 in2 (h.moves (inverse x) l).1) u m e
@@ -185,12 +137,15 @@ new_corners ts h trees reached tree x g c f joined u m e =
     side : (y : ℤ) → IsLabel ts y → triangle_of ts y ≡ triangle_of ts (inverse x) → y ≢ inverse x → IsJoined ts f y
     side y l e ne =
         joined y l
-        (ap (λ (k : ℕ). get_or (set reached (triangle_of ts (inverse x)) true) k false) e ∙ marked reached (triangle_of ts (inverse x)) below)
+        (ap (λ (k : ℕ). get_or (set reached (triangle_of ts (inverse x)) true) k false) e ∙ marked reached
+        (triangle_of ts (inverse x)) below)
         (side_free ts trees reached tree x g c y l e ne)
 
 -- the crossed side has one name too
-crossed_name : (ts : List (List ℤ)) → TriangleLaws ts → (trees : ℕ) (reached tree : List Bool) (x : ℤ) → Grown ts trees reached tree → IsCrossing ts reached x
-    → (f : ℤ → ℤ) → IsVertexwise ts f → AreJoined ts (set reached (triangle_of ts (inverse x)) true) (set tree (edge_of x) true) f
+crossed_name : (ts : List (List ℤ)) → TriangleLaws ts → (trees : ℕ) (reached tree : List Bool) (x : ℤ)
+    → Grown ts trees reached tree → IsCrossing ts reached x
+    → (f : ℤ → ℤ) → IsVertexwise ts f
+    → AreJoined ts (set reached (triangle_of ts (inverse x)) true) (set tree (edge_of x) true) f
     → f x ≡ f (inverse x)
 crossed_name ts h trees reached tree x g c f v joined =
     let l : IsLabel ts (inverse x) = inverse_label ts x c.label in
@@ -200,8 +155,10 @@ crossed_name ts h trees reached tree x g c f v joined =
     (h.stays (next ts (inverse x)) after ∙ h.stays (inverse x) l)
 
 -- what is joined now was joined before, and the crossed side is joined
-joined_before : (ts : List (List ℤ)) → TriangleLaws ts → (trees : ℕ) (reached tree : List Bool) (x : ℤ) → Grown ts trees reached tree → IsCrossing ts reached x
-    → (f : ℤ → ℤ) → IsVertexwise ts f → AreJoined ts (set reached (triangle_of ts (inverse x)) true) (set tree (edge_of x) true) f
+joined_before : (ts : List (List ℤ)) → TriangleLaws ts → (trees : ℕ) (reached tree : List Bool) (x : ℤ)
+    → Grown ts trees reached tree → IsCrossing ts reached x
+    → (f : ℤ → ℤ) → IsVertexwise ts f
+    → AreJoined ts (set reached (triangle_of ts (inverse x)) true) (set tree (edge_of x) true) f
     → AreJoined ts reached tree f
 joined_before ts h trees reached tree x g c f v joined u k at free =
     elim (cases_eq (edge_of u) (edge_of x)) [
@@ -209,9 +166,13 @@ joined_before ts h trees reached tree x g c f v joined u k at free =
           joined u k (still_marked reached (triangle_of ts (inverse x)) (triangle_of ts u) below at)
           (get_or-set_other tree (edge_of x) (edge_of u) true false ne ∙ free)
       | inl e ↦
-          elim (same_edge x u e) [
-            | inl d ↦ subst (IsJoined ts f) (sym d) (crossed_name ts h trees reached tree x g c f v joined ∙ tail_name ts h f v x c.label)
-            | inr d ↦ absurd (not_both reached (triangle_of ts (inverse x)) (ap (λ (z : ℤ). get_or reached (triangle_of ts z) false) (sym d) ∙ at) c.to)
+          elim (two_labels u x e) [
+            | inl d ↦
+                subst (IsJoined ts f) (sym d)
+                (crossed_name ts h trees reached tree x g c f v joined ∙ tail_name ts h f v x c.label)
+            | inr d ↦
+                absurd (not_both reached (triangle_of ts (inverse x))
+                (ap (λ (z : ℤ). get_or reached (triangle_of ts z) false) (sym d) ∙ at) c.to)
           ]
     ]
   where
@@ -219,22 +180,34 @@ joined_before ts h trees reached tree x g c f v joined u k at free =
     below = omega (arith, h.triangle (inverse x) (inverse_label ts x c.label), g.room)
 
 -- a marked triangle of the component has the name of the crossed side
-joins_more : (ts : List (List ℤ)) → TriangleLaws ts → (trees : ℕ) (reached tree : List Bool) (x : ℤ) → Grown ts trees reached tree → IsCrossing ts reached x
-    → (f : ℤ → ℤ) → IsVertexwise ts f → AreJoined ts (set reached (triangle_of ts (inverse x)) true) (set tree (edge_of x) true) f
+joins_more : (ts : List (List ℤ)) → TriangleLaws ts → (trees : ℕ) (reached tree : List Bool) (x : ℤ)
+    → Grown ts trees reached tree → IsCrossing ts reached x
+    → (f : ℤ → ℤ) → IsVertexwise ts f
+    → AreJoined ts (set reached (triangle_of ts (inverse x)) true) (set tree (edge_of x) true) f
     → (y : ℤ) → IsLabel ts y → IsMarked (set reached (triangle_of ts (inverse x)) true) (triangle_of ts y)
     → IsReached ts (triangle_of ts y) (triangle_of ts x) → f y ≡ f x
 joins_more ts h trees reached tree x g c f v joined y l m r =
     elim (was_marked reached (triangle_of ts (inverse x)) (triangle_of ts y) m) [
       | inl old ↦ g.joins f v (joined_before ts h trees reached tree x g c f v joined) y x l c.label old c.from r
-      | inr e ↦ new_corners ts h trees reached tree x g c f joined y l e ∙ sym (crossed_name ts h trees reached tree x g c f v joined)
+      | inr e ↦
+          new_corners ts h trees reached tree x g c f joined y l e
+          ∙ sym (crossed_name ts h trees reached tree x g c f v joined)
     ]
 
-pub grow : (ts : List (List ℤ)) → TriangleLaws ts → (trees : ℕ) (reached tree : List Bool) (x : ℤ) → Grown ts trees reached tree → IsCrossing ts reached x
+pub grow : (ts : List (List ℤ)) → TriangleLaws ts → (trees : ℕ) (reached tree : List Bool) (x : ℤ)
+    → Grown ts trees reached tree → IsCrossing ts reached x
     → Grown ts trees (set reached (triangle_of ts (inverse x)) true) (set tree (edge_of x) true)
 grow ts h trees reached tree x g c = record {
   room = length-set reached (triangle_of ts (inverse x)) true ∙ g.room;
   sides = length-set tree (edge_of x) true ∙ g.sides;
-  few = omega (arith, g.few, mark_one reached (triangle_of ts (inverse x)) below c.to, mark_one tree (edge_of x) within (crossing_free ts trees reached tree x g c));
+  few =
+      omega (
+        arith,
+        g.few,
+        mark_one reached (triangle_of ts (inverse x)) below c.to,
+        mark_one tree (edge_of x) within
+            (crossing_free ts trees reached tree x g c),
+      );
   inside = inside_more ts h trees reached tree x g c;
   joins = joins;
 }
@@ -251,84 +224,30 @@ grow ts h trees reached tree x g c = record {
         subst (λ (k : ℕ). IsReached ts k (triangle_of ts x)) (sym e)
         (reached_back ts (triangle_of ts x) (triangle_of ts (inverse x)) (reached_step ts x c.label))
 
-    joins : (f : ℤ → ℤ) → IsVertexwise ts f → AreJoined ts (set reached (triangle_of ts (inverse x)) true) (set tree (edge_of x) true) f
-        → (y z : ℤ) → IsLabel ts y → IsLabel ts z → IsMarked (set reached (triangle_of ts (inverse x)) true) (triangle_of ts y)
-        → IsMarked (set reached (triangle_of ts (inverse x)) true) (triangle_of ts z) → IsReached ts (triangle_of ts y) (triangle_of ts z) → f y ≡ f z
+    joins : (f : ℤ → ℤ) → IsVertexwise ts f
+        → AreJoined ts (set reached (triangle_of ts (inverse x)) true) (set tree (edge_of x) true) f
+        → (y z : ℤ) → IsLabel ts y → IsLabel ts z
+        → IsMarked (set reached (triangle_of ts (inverse x)) true) (triangle_of ts y)
+        → IsMarked (set reached (triangle_of ts (inverse x)) true) (triangle_of ts z)
+        → IsReached ts (triangle_of ts y) (triangle_of ts z) → f y ≡ f z
     joins f v joined y z l k m n r =
         elim (was_marked reached (triangle_of ts (inverse x)) (triangle_of ts z) n) [
-          | inr new ↦ both (reached_along ts (triangle_of ts y) (triangle_of ts z) (triangle_of ts x) r (to_crossed (triangle_of ts z) new)) (to_crossed (triangle_of ts z) new)
+          | inr new ↦
+              both (reached_along ts (triangle_of ts y) (triangle_of ts z) (triangle_of ts x) r
+              (to_crossed (triangle_of ts z) new)) (to_crossed (triangle_of ts z) new)
           | inl old_z ↦
               elim (was_marked reached (triangle_of ts (inverse x)) (triangle_of ts y) m) [
                 | inr new ↦
                     both (to_crossed (triangle_of ts y) new)
-                    (reached_along ts (triangle_of ts z) (triangle_of ts y) (triangle_of ts x) (reached_back ts (triangle_of ts y) (triangle_of ts z) r)
+                    (reached_along ts (triangle_of ts z) (triangle_of ts y) (triangle_of ts x)
+                    (reached_back ts (triangle_of ts y) (triangle_of ts z) r)
                     (to_crossed (triangle_of ts y) new))
                 | inl old_y ↦ g.joins f v (joined_before ts h trees reached tree x g c f v joined) y z l k old_y old_z r
               ]
         ]
       where
-        both : IsReached ts (triangle_of ts y) (triangle_of ts x) → IsReached ts (triangle_of ts z) (triangle_of ts x) → f y ≡ f z
-        both p q = joins_more ts h trees reached tree x g c f v joined y l m p ∙ sym (joins_more ts h trees reached tree x g c f v joined z k n q)
-
--- ---- one more tree
-
-pub more_trees : (ts : List (List ℤ)) (trees more : ℕ) (reached tree : List Bool) → trees ≤ more → Grown ts trees reached tree → Grown ts more reached tree
-more_trees ts trees more reached tree b g = record {
-  room = g.room;
-  sides = g.sides;
-  few = omega (arith, g.few);
-  inside = g.inside;
-  joins = g.joins;
-}
-
--- a triangle that no side leads to from the marked ones
-pub plant : (ts : List (List ℤ)) → TriangleLaws ts → (trees : ℕ) (reached tree : List Bool) (r : ℕ) → Grown ts trees reached tree → IsClosed ts reached
-    → r < length ts → IsFree reached r → Grown ts (trees + 1) (set reached r true) tree
-plant ts h trees reached tree r g closed below free = record {
-  room = length-set reached r true ∙ g.room;
-  sides = g.sides;
-  few = omega (arith, g.few, mark_one reached r within free);
-  inside = λ x l m. still_marked reached r (triangle_of ts x) within (g.inside x l m);
-  joins = joins;
-}
-  where
-    within : r < length reached
-    within = omega (arith, g.room)
-
-    -- no walk leads from a marked triangle to it
-    apart : (s : ℕ) → IsMarked reached s → IsReached ts s r → ⊥
-    apart s m p = not_both reached r (reached_marked ts reached s r closed p m) free
-
-    joins : (f : ℤ → ℤ) → IsVertexwise ts f → AreJoined ts (set reached r true) tree f
-        → (y z : ℤ) → IsLabel ts y → IsLabel ts z → IsMarked (set reached r true) (triangle_of ts y)
-        → IsMarked (set reached r true) (triangle_of ts z) → IsReached ts (triangle_of ts y) (triangle_of ts z) → f y ≡ f z
-    joins f v joined y z l k m n p =
-        elim (was_marked reached r (triangle_of ts y) m) [
-          | inl old_y ↦
-              elim (was_marked reached r (triangle_of ts z) n) [
-                | inl old_z ↦ g.joins f v (λ u q at e. joined u q (still_marked reached r (triangle_of ts u) within at) e) y z l k old_y old_z p
-                | inr new ↦ absurd (apart (triangle_of ts y) old_y (subst (IsReached ts (triangle_of ts y)) new p))
-              ]
-          | inr new_y ↦
-              elim (was_marked reached r (triangle_of ts z) n) [
-                | inl old_z ↦
-                    absurd
-                    (apart (triangle_of ts z) old_z (subst (IsReached ts (triangle_of ts z)) new_y (reached_back ts (triangle_of ts y) (triangle_of ts z) p)))
-                | inr new_z ↦ sym (corners new_y z k (new_z ∙ sym new_y))
-              ]
-        ]
-      where
-        side : triangle_of ts y ≡ r → (u : ℤ) → IsLabel ts u → triangle_of ts u ≡ triangle_of ts y → IsJoined ts f u
-        side new u q e =
-            joined u q (ap (λ (i : ℕ). get_or (set reached r true) i false) e ∙ m)
-            (elim (marked_or_free tree (edge_of u)) [
-              | inr a ↦ a
-              | inl a ↦ absurd (apart (triangle_of ts u) (g.inside u q a) (reached_here ts (triangle_of ts u) r (e ∙ new)))
-            ])
-
-        corners : triangle_of ts y ≡ r → (u : ℤ) → IsLabel ts u → triangle_of ts u ≡ triangle_of ts y → f u ≡ f y
-        corners new u q e =
-            let after : IsLabel ts (next ts y) = h.label y l in
-            let before : IsLabel ts (previous ts y) = h.label (next ts y) after in
-            three_corners ts h f y l (side new (next ts y) after (h.stays y l))
-            (side new (previous ts y) before (h.stays (next ts y) after ∙ h.stays y l)) u q e
+        both : IsReached ts (triangle_of ts y) (triangle_of ts x) → IsReached ts (triangle_of ts z) (triangle_of ts x)
+            → f y ≡ f z
+        both p q =
+            joins_more ts h trees reached tree x g c f v joined y l m p
+            ∙ sym (joins_more ts h trees reached tree x g c f v joined z k n q)

@@ -1,12 +1,19 @@
 -- The triples of a triangulation, read from any of their sides.
-use Rattle.std.proofs.Common.{ℕ, zero, suc, ℤ, List, [], ◌∷◌, ◌++◌, ◌≡◌, ◌<◌, ◌⊎◌, inl, inr, refl, sym, ◌∙◌, ap, subst, arith, length, get_or}
+--
+-- A list of three has three rotations. A triangle is a rotation of one of the triples, so it can be read from any of
+-- its labels: as labels stand once, the triple at a place gives the triangle of its three labels, and the label after
+-- each. Conversely each label stands in a triple, and with the two labels that follow it it is a rotation of that
+-- triple.
+use Rattle.std.proofs.Common.{ℕ, zero, suc, ℤ, List, [], ◌∷◌, ◌++◌, ◌≡◌, ◌<◌, ◌⊎◌, inl, inr, refl, sym, ◌∙◌, ap, subst}
+use Rattle.std.proofs.Common.{arith, length, get_or}
 use Rattle.std.proofs.lemmas.List.{append-nil, get_or_default}
 use Rattle.ideal_tri.specs.Words.{IsRotation}
 use Rattle.ideal_tri.specs.Triangulations.{IsLabel, IsTriangulation, next, previous}
 use Rattle.ideal_tri.specs.Relabellings.{IsTriangleOf}
 use Rattle.ideal_tri.specs.TripleLaws.{TripleLaws}
 use Rattle.ideal_tri.proofs.Rotations.{Rotation-refl, Rotation-trans}
-use Rattle.ideal_tri.proofs.Triangles.{Triangle, HasTriangle, turned, IsOnce, IsOnce-tail, first_triangle, later_triangle, IsOnce-triangulation, label_of_counted, triangle_at, previous-is}
+use Rattle.ideal_tri.proofs.Triangles.{Triangle, HasTriangle, turned, IsOnce, IsOnce-tail, first_triangle}
+use Rattle.ideal_tri.proofs.Triangles.{later_triangle, IsOnce-triangulation, label_of_counted, triangle_at, previous-is}
 
 -- ---- the triangle at a place
 
@@ -68,19 +75,22 @@ read_triangle triples once x y z (k, u, below, at, turn) =
     let here : get_or triples k [] ≡ u = get_or_default triples k [] u below ∙ at in
     elim (three_rotations x y z u turn) [
       | inl e ↦ (k, triangle_at_place triples k x y z once below (here ∙ e))
-      | inr (inl e) ↦ (k, turned triples z x y k (turned triples y z x k (triangle_at_place triples k y z x once below (here ∙ e))))
+      | inr (inl e) ↦
+          (k, turned triples z x y k (turned triples y z x k (triangle_at_place triples k y z x once below (here ∙ e))))
       | inr (inr e) ↦ (k, turned triples z x y k (triangle_at_place triples k z x y once below (here ∙ e)))
     ]
 
 -- ---- the laws
 
-rotation_of_is : (x y z : ℤ) (u : List ℤ) → (u ≡ x ∷ (y ∷ (z ∷ []))) ⊎ ((u ≡ y ∷ (z ∷ (x ∷ []))) ⊎ (u ≡ z ∷ (x ∷ (y ∷ []))))
+rotation_of_is : (x y z : ℤ) (u : List ℤ)
+    → (u ≡ x ∷ (y ∷ (z ∷ []))) ⊎ ((u ≡ y ∷ (z ∷ (x ∷ []))) ⊎ (u ≡ z ∷ (x ∷ (y ∷ []))))
     → IsRotation (x ∷ (y ∷ (z ∷ []))) u
 rotation_of_is x y z u (inl e) = ([], x ∷ (y ∷ (z ∷ [])), refl, e)
 rotation_of_is x y z u (inr (inl e)) = (x ∷ [], y ∷ (z ∷ []), refl, e)
 rotation_of_is x y z u (inr (inr e)) = (x ∷ (y ∷ []), z ∷ [], refl, e)
 
-stands_as_triangle : (triples : List (List ℤ)) (x y z : ℤ) (n : ℕ) → Triangle triples x y z n → IsTriangleOf triples (x ∷ (y ∷ (z ∷ [])))
+stands_as_triangle : (triples : List (List ℤ)) (x y z : ℤ) (n : ℕ) → Triangle triples x y z n
+    → IsTriangleOf triples (x ∷ (y ∷ (z ∷ [])))
 stands_as_triangle triples x y z n g =
     let (k, below, at) = g.stands in
     (k, g.triple, below, at, rotation_of_is x y z g.triple g.is)
@@ -99,7 +109,8 @@ pub at_label : (triples : List (List ℤ)) (x : ℤ) → IsTriangulation triples
     → IsTriangleOf triples (x ∷ (next triples x ∷ (previous triples x ∷ [])))
 at_label triples x h l =
     let g : HasTriangle triples x = triangle_at triples h x l in
-    subst (λ (v : ℤ). IsTriangleOf triples (x ∷ (next triples x ∷ (v ∷ [])))) (sym (previous-is triples x g.second g.third g.number g.sides))
+    subst (λ (v : ℤ). IsTriangleOf triples (x ∷ (next triples x ∷ (v ∷ []))))
+    (sym (previous-is triples x g.second g.third g.number g.sides))
     (subst (λ (v : ℤ). IsTriangleOf triples (x ∷ (v ∷ (g.third ∷ [])))) (sym g.sides.first.after)
     (stands_as_triangle triples x g.second g.third g.number g.sides))
 
@@ -110,7 +121,8 @@ sides triples x y z h t =
     let (k, g) = read_triangle triples (IsOnce-triangulation triples h) x y z t in
     (label_of_counted triples h x g.first.counted, g.first.after, g.second.after)
 
-pub IsTriangleOf-turned : (triples : List (List ℤ)) (s t : List ℤ) → IsRotation s t → IsTriangleOf triples t → IsTriangleOf triples s
+pub IsTriangleOf-turned : (triples : List (List ℤ)) (s t : List ℤ) → IsRotation s t → IsTriangleOf triples t
+    → IsTriangleOf triples s
 IsTriangleOf-turned triples s t r (k, u, below, at, turn) = (k, u, below, at, Rotation-trans s t u r turn)
 
 pub triple_laws : TripleLaws

@@ -1,4 +1,4 @@
--- The components of a triangulation: the classes of its triangles that walks join. Each is named by its least triangle.
+-- The components of a triangulation: classes of triangles that walks join, each named by its least.
 use Rattle.std.specs.Prelude.{◌==◌, ◌||◌, ℕ, zero, suc, ℤ, List, [], Bool, length, slice_index_or}
 use Rattle.std.specs.List.{count_by, list_any, position_or_len, range_with_len}
 use Rattle.ideal_tri.specs.Labels.{inverse}
@@ -8,15 +8,18 @@ use Rattle.ideal_tri.specs.Triangulations.{triangle_of}
 abbrev pub is_near : List (List ℤ) → ℕ → ℕ → ℕ → Bool
 is_near triples zero s t = s == t
 is_near triples (suc n) s t =
-    (s == t) || list_any (λ x. is_near triples n (triangle_of triples (inverse x)) t) (slice_index_or triples s [])
+    (s == t)
+    || list_any (λ x. is_near triples n (triangle_of triples (inverse x)) t)
+    (slice_index_or triples s [])
 
--- a walk goes from triangle s to triangle t: a shortest one has fewer letters than there are triangles
+-- a walk goes from s to t: the shortest one has fewer letters than there are triangles
 abbrev pub is_reached : List (List ℤ) → ℕ → ℕ → Bool
 is_reached triples s t = is_near triples (length triples) s t
 
 -- the least triangle of the component of t
 abbrev pub least_triangle : List (List ℤ) → ℕ → ℕ
-least_triangle triples t = position_or_len (is_reached triples t) (range_with_len 0 (length triples))
+least_triangle triples t =
+    position_or_len (is_reached triples t) (range_with_len 0 (length triples))
 
 -- how many triangles below k are the least of their components
 abbrev pub first_triangles : List (List ℤ) → ℕ → ℕ

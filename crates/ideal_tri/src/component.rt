@@ -1,9 +1,12 @@
 //! Components: the classes of triangles that walks join, each named by its least triangle.
-ghost use Rattle.std.specs.Prelude.{◌≡◌, ◌<◌, ◌≤◌, ◌⊎◌, ◌↔◌, ℕ, ℤ, false, true, length, slice_index_or, IfSome, IfNone};
+ghost use Rattle.std.specs.Prelude.{◌≡◌, ◌<◌, ◌≤◌, ◌⊎◌, ◌↔◌, ℕ, ℤ, false, true, length};
+ghost use Rattle.std.specs.Prelude.{slice_index_or, IfSome, IfNone};
 ghost use Rattle.ideal_tri.specs.Labels.{inverse};
-ghost use Rattle.ideal_tri.specs.Triangulations.{triangle_of, IsLabel, IsReached, IsTriangulation, IsConnected};
+ghost use Rattle.ideal_tri.specs.Triangulations.{triangle_of, IsLabel, IsReached, IsTriangulation};
+ghost use Rattle.ideal_tri.specs.Triangulations.{IsConnected};
 ghost use Rattle.ideal_tri.specs.Refusals.{IsLeastUnreached};
-ghost use Rattle.ideal_tri.specs.Components.{least_triangle, first_triangles, component_of, component_count};
+ghost use Rattle.ideal_tri.specs.Components.{least_triangle, first_triangles, component_of};
+ghost use Rattle.ideal_tri.specs.Components.{component_count};
 
 use crate::label::Label;
 use crate::tri::{TRIANGLES, Tri};
@@ -17,7 +20,8 @@ impl Tri {
         first_triangles(self, self.triangles())
     }
 
-    /// The number of the component of triangle `t`. Components are numbered from 0, in the order of their least triangles.
+    /// The number of the component of triangle `t`. Components are numbered from 0, in the order of
+    /// their least triangles.
     pub fn component(&self, t: u32) -> u32
         requires { t < length self.now }
         ensures { result ≡ component_of self.now t }
@@ -115,7 +119,8 @@ fn mark_neighbours(tri: &Tri, t: u32, reached: &mut [bool; TRIANGLES])
     requires few { length tri.now ≤ TRIANGLES }
     requires room { length reached.old ≡ TRIANGLES }
     ensures room { length reached.new ≡ TRIANGLES }
-    ensures kept { (u : ℕ) → slice_index_or reached.old u false ≡ true → slice_index_or reached.new u false ≡ true }
+    ensures kept { (u : ℕ) → slice_index_or reached.old u false ≡ true
+        → slice_index_or reached.new u false ≡ true }
     ensures marked { (x : ℤ) → IsLabel tri.now x → triangle_of tri.now x ≡ t
         → slice_index_or reached.new (triangle_of tri.now (inverse x)) false ≡ true }
     ensures only { (u : ℕ) → slice_index_or reached.new u false ≡ true

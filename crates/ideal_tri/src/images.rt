@@ -5,8 +5,8 @@ ghost use Rattle.ideal_tri.specs.Relabellings.{IsBijection, inverse_images};
 use crate::label::Label;
 use crate::tri::EDGES;
 
-/// The images under a bijection of the labels of so many edges backwards, for the labels 0, 1, .., and zeros after them.
-/// Only the first images count, one for each edge.
+/// The images under a bijection of the labels of so many edges backwards, for the labels 0, 1, ..,
+/// and zeros after them. Only the first images count, one for each edge.
 pub fn inverse_images(images: &[Label; EDGES], edges: usize) -> [Label; EDGES]
     requires few { edges ≤ EDGES }
     requires bijection { IsBijection (take edges images.now) }

@@ -4,8 +4,8 @@ ghost use Rattle.ideal_tri.specs.Labels.{inverse, edge_of, with_sign_of};
 
 use std::marker::Model;
 
-/// A directed edge of a triangulation (after Bell's flipper): edge `n` has the labels `n` and `-1 - n`.
-/// Labels mean nothing without their triangulation.
+/// A directed edge of a triangulation (after Bell's flipper): edge `n` has the labels `n` and
+/// `-1 - n`. Labels mean nothing without their triangulation.
 #[derive(Clone, Copy, Debug, Default, PartialEq, Eq)]
 pub struct Label(i32);
 
@@ -52,7 +52,8 @@ impl Label {
 
     /// The label itself, or its inverse where the number of `sign` is negative.
     pub fn with_sign_of(self, sign: Label) -> Label
-        ensures { result ≡ with_sign_of sign self }
+        ensures value { result ≡ with_sign_of sign self }
+        ensures edge { edge_of result ≡ edge_of self }
     {
         if sign.0 < 0 { self.inverse() } else { self }
     }

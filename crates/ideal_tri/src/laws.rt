@@ -1,6 +1,7 @@
 //! What is proved of the definitions that the contracts cite.
 //!
-//! The functions do nothing: each is called, in a body or by a layer above, where a proof needs what its contract says.
+//! The functions do nothing: each is called, in a body or by a layer above, where a proof needs
+//! what its contract says.
 ghost use Rattle.ideal_tri.specs.LabelLaws.{LabelLaws};
 ghost use Rattle.ideal_tri.specs.WordLaws.{WordLaws};
 ghost use Rattle.ideal_tri.specs.SurfaceLaws.{SurfaceLaws};
@@ -37,12 +38,14 @@ pub fn triple_laws()
     ensures { TripleLaws }
 {}
 
-/// What is proved of the vertices of a triangulation: how they are numbered, and that there are no more than on spheres.
+/// What is proved of the vertices of a triangulation: how they are numbered, and that there are no
+/// more than on spheres.
 pub fn vertex_laws()
     ensures { VertexLaws }
 {}
 
-/// What is proved of the components of a triangulation: how they are numbered, and that none is a single triangle.
+/// What is proved of the components of a triangulation: how they are numbered, and that none is a
+/// single triangle.
 pub fn component_laws()
     ensures { ComponentLaws }
 {}
@@ -52,13 +55,15 @@ pub fn hit_laws()
     ensures { HitLaws }
 {}
 
-/// What is proved of the images of labels and of words, of bijections of labels, and of their inverse images.
+/// What is proved of the images of labels and of words, of bijections of labels, and of their
+/// inverse images.
 pub fn bijection_laws()
     ensures { BijectionLaws }
 {}
 
-/// What is proved of relabellings: they go with the sides and the triangles, their inverses and compositions are relabellings, and
-/// they carry the curves that draw a vector to curves that the moved vector counts.
+/// What is proved of relabellings: they go with the sides and the triangles, their inverses and
+/// compositions are relabellings, and they carry the curves that draw a vector to curves that the
+/// moved vector counts.
 pub fn relabelling_laws()
     ensures { RelabellingLaws }
 {}

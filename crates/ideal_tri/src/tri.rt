@@ -1,8 +1,12 @@
 //! Triangulations.
-ghost use Rattle.std.specs.Prelude.{◌≡◌, ◌≢◌, ◌<◌, ◌≤◌, ◌-◌, ◌/◌, ◌+◌, ◌*◌, ◌++◌, [], ◌∷◌, ◌↔◌, length, slice_get, Some, IfOk, IfErr, IfSome, IfNone, IsTrue, All};
+ghost use Rattle.std.specs.Prelude.{◌≡◌, ◌≢◌, ◌<◌, ◌≤◌, ◌-◌, ◌/◌, ◌+◌, ◌*◌, ◌++◌, [], ◌∷◌, ◌↔◌};
+ghost use Rattle.std.specs.Prelude.{length, slice_get, Some, IfOk, IfErr, IfSome, IfNone, IsTrue};
+ghost use Rattle.std.specs.Prelude.{All};
 ghost use Rattle.ideal_tri.specs.Labels.{inverse, edge_of};
-ghost use Rattle.ideal_tri.specs.Triangulations.{labels_of, edge_count, triangle_of, side_of, next, IsLabel, IsTriangulation, IsConnected};
-ghost use Rattle.ideal_tri.specs.Refusals.{IsOfGoodSize, IsFirstOutside, IsFirstRepeated, IsRefusedGluing, IsRefusedFor};
+ghost use Rattle.ideal_tri.specs.Triangulations.{labels_of, edge_count, triangle_of, side_of, next};
+ghost use Rattle.ideal_tri.specs.Triangulations.{IsLabel, IsTriangulation, IsConnected};
+ghost use Rattle.ideal_tri.specs.Refusals.{IsOfGoodSize, IsFirstOutside, IsFirstRepeated};
+ghost use Rattle.ideal_tri.specs.Refusals.{IsRefusedGluing, IsRefusedFor};
 ghost use Rattle.ideal_tri.specs.inside.Places.{key_of, with_places, spare_triples, IsGlued};
 ghost use Rattle.ideal_tri.specs.Flips.{IsFlippable, flipped};
 
@@ -19,13 +23,13 @@ pub(crate) const TRIANGLES: usize = 2 * EDGES / 3;
 /// How many labels the most edges have: two for each.
 pub(crate) const LABELS: usize = 2 * EDGES;
 
-// The entry of a label that stands nowhere.
+/// The entry of a label that stands nowhere.
 const NOWHERE: u8 = 255;
 
-/// An ideal triangulation of a punctured surface (after Bell's flipper): at most 32 triangles and 48 edges, in fixed
-/// memory. Triangles are numbered from 0; the sides of each are numbered 0, 1 and 2, anticlockwise, and carry the labels
-/// by which they are glued: side `x` to side `-1 - x`. The triples of labels are kept in the order and the rotation in
-/// which they came.
+/// An ideal triangulation of a punctured surface (after Bell's flipper): at most 32 triangles and
+/// 48 edges, in fixed memory. Triangles are numbered from 0; the sides of each are numbered 0, 1
+/// and 2, anticlockwise, and carry the labels by which they are glued: side `x` to side `-1 - x`.
+/// The triples of labels are kept in the order and the rotation in which they came.
 #[derive(Clone, Copy, Debug, PartialEq, Eq)]
 pub struct Tri {
     // the number of triangles
@@ -36,7 +40,8 @@ pub struct Tri {
     place: [u8; LABELS],
 }
 
-/// Why triples are no triangulation. The tests are made in this order, each over all triples before the next.
+/// Why triples are no triangulation. The tests are made in this order, each over all triples before
+/// the next.
 #[derive(Clone, Copy, Debug, PartialEq, Eq)]
 pub enum TriError {
     /// There is no triple.
@@ -79,14 +84,17 @@ impl Model for Tri {
 }
 
 impl Tri {
-    /// The triangulation of these triples of labels, each anticlockwise round its triangle, up to rotation. With `n` edges,
-    /// three for each two triangles, the labels are those from `-n` to `n - 1`, each once. Connection is tested last, so
-    /// that all but `Disconnected` are the refusals of `from_components`.
+    /// The triangulation of these triples of labels, each anticlockwise round its triangle, up to
+    /// rotation. With `n` edges, three for each two triangles, the labels are those from `-n` to
+    /// `n - 1`, each once. Connection is tested last, so that all but `Disconnected` are the
+    /// refusals of `from_components`.
     pub fn from_triples(triples: &[[i32; 3]]) -> Result<Tri, TriError>
         ensures accepted { IfOk result (λ t. IsTriangulation triples.now × (t ≡ triples.now)) }
         ensures connected { IfOk result IsConnected }
         ensures size { IfOk result (λ _. IsOfGoodSize triples.now) }
         ensures refused { IfErr result (IsRefusedFor triples.now) }
+        ensures exact { IfErr result (λ _. ¬ (IsOfGoodSize triples.now
+            × IsTriangulation triples.now × IsConnected triples.now)) }
     {
         let tri = Tri::from_components(triples)?;
         match first_unreached(&tri) {
@@ -95,12 +103,13 @@ impl Tri {
         }
     }
 
-    /// The triangulation of these triples, as `from_triples` takes them, where it may have several components.
-    /// The refusal is never `Disconnected`.
+    /// The triangulation of these triples, as `from_triples` takes them, where it may have several
+    /// components. The refusal is never `Disconnected`.
     pub fn from_components(triples: &[[i32; 3]]) -> Result<Tri, TriError>
         ensures accepted { IfOk result (λ t. IsTriangulation triples.now × (t ≡ triples.now)) }
         ensures size { IfOk result (λ _. IsOfGoodSize triples.now) }
         ensures refused { IfErr result (IsRefusedGluing triples.now) }
+        ensures exact { IfErr result (λ _. ¬ (IsOfGoodSize triples.now × IsTriangulation triples.now)) }
     {
         if triples.is_empty() {
             return Err(TriError::NoTriangle);
@@ -172,7 +181,8 @@ impl Tri {
         self.sides[triangle as usize][(side as usize + 1) % 3]
     }
 
-    /// Whether the edge of `x` has two triangles at it, so that it can be flipped. An edge within one triangle is folded.
+    /// Whether the edge of `x` has two triangles at it, so that it can be flipped. An edge within
+    /// one triangle is folded.
     pub fn flippable(&self, x: Label) -> bool
         requires { IsLabel self.now x }
         ensures { IsTrue result ↔ IsFlippable self.now x }
@@ -180,9 +190,10 @@ impl Tri {
         self.place(x).0 != self.place(x.inverse()).0
     }
 
-    /// The triangulation after the flip of the edge of `e`: where `~e` is the other direction of `e`, the triangles
-    /// `(e, a, b)` and `(~e, c, d)` become `(e, d, a)` and `(~e, b, c)`, in this rotation. They keep their numbers, and the
-    /// new edge has the number of the old one. But for one copy the work is the same for every triangulation.
+    /// The triangulation after the flip of the edge of `e`: where `~e` is the other direction of
+    /// `e`, the triangles `(e, a, b)` and `(~e, c, d)` become `(e, d, a)` and `(~e, b, c)`, in this
+    /// rotation. They keep their numbers, and the new edge has the number of the old one. But for
+    /// one copy the work is the same for every triangulation.
     pub fn flipped(&self, e: Label) -> Tri
         requires label { IsLabel self.now e }
         requires flippable { IsFlippable self.now e }
@@ -206,14 +217,14 @@ impl Tri {
     }
 }
 
-// Three edges for each two triangles, rounded down.
+/// Three edges for each two triangles, rounded down.
 fn edge_count(triples: &[[i32; 3]]) -> u64
     ensures { result ≡ edge_count triples.now }
 {
     3 * triples.len() as u64 / 2
 }
 
-// The first label read that is out of range.
+/// The first label read that is out of range.
 fn first_outside(triples: &[[i32; 3]]) -> Option<i32>
     ensures some { IfSome result (IsFirstOutside triples.now) }
     ensures none { IfNone result (All (IsLabel triples.now) (labels_of triples.now)) }
@@ -227,7 +238,7 @@ fn first_outside(triples: &[[i32; 3]]) -> Option<i32>
     None
 }
 
-// Where the place of a label is kept.
+/// Where the place of a label is kept.
 fn key(x: Label) -> usize
     requires { edge_of x < EDGES }
     ensures key { result ≡ key_of x }
@@ -236,7 +247,7 @@ fn key(x: Label) -> usize
     (x.get() + EDGES as i32) as usize
 }
 
-// Where each label stands among all that are read, or the first label that is read a second time.
+/// Where each label stands among all that are read, or the first label that is read a second time.
 fn place_labels(triples: &[[i32; 3]]) -> Result<[u8; LABELS], i32>
     requires size { IsOfGoodSize triples.now }
     requires in_range { All (IsLabel triples.now) (labels_of triples.now) }
@@ -255,7 +266,7 @@ fn place_labels(triples: &[[i32; 3]]) -> Result<[u8; LABELS], i32>
     Ok(place)
 }
 
-// Writes down where the sides of a triangle stand.
+/// Writes down where the sides of a triangle stand.
 fn write_places(place: &mut [u8; LABELS], triangle: u32, x: Label, y: Label, z: Label)
     requires triangle { triangle < TRIANGLES }
     requires labels { (edge_of x < EDGES) × (edge_of y < EDGES) × (edge_of z < EDGES) }
@@ -267,7 +278,7 @@ fn write_places(place: &mut [u8; LABELS], triangle: u32, x: Label, y: Label, z: 
     place[key(z)] = at + 2;
 }
 
-// The triples as labels, and zeros after them.
+/// The triples as labels, and zeros after them.
 fn copy_sides(triples: &[[i32; 3]]) -> [[Label; 3]; TRIANGLES]
     requires { length triples.now ≤ TRIANGLES }
     ensures { result ≡ triples.now ++ spare_triples (TRIANGLES - length triples.now) }

@@ -8,17 +8,20 @@ use crate::relabelling::Relabelling;
 use ideal_tri::Memory;
 use tri_atlas::{Atlas, MoveId, TriId, atlas_laws};
 
-/// Keeps a relabelling of one triangulation of an atlas onto another as a move, and answers it, forwards. It wants memory
-/// only where there is no room for a push; where memory is wanting, the atlas stays as it was.
+/// Keeps a relabelling of one triangulation of an atlas onto another as a move, and answers it,
+/// forwards. It wants memory only where there is no room for a push; where memory is wanting, the
+/// atlas stays as it was.
 pub fn push(atlas: &mut Atlas, from: TriId, to: TriId, r: &Relabelling) -> Result<MoveId, Memory>
     requires from { IsTriIn atlas.old from }
     requires to { IsTriIn atlas.old to }
-    requires carries { IsRelabelling (triangulation atlas.old from) (triangulation atlas.old to) r.now }
-    ensures pushed { IfOk result (λ m. IsPushed atlas.old atlas.new from to r.now m) }
-    ensures wanting { OnErr result (atlas.old.spare ≡ 0) }
+    requires carries { IsRelabelling (triangulation atlas.old from)
+        (triangulation atlas.old to) r.now }
+    ensures accepted { IfOk result (λ m. IsPushed atlas.old atlas.new from to r.now m) }
+    ensures refused { OnErr result (atlas.old.spare ≡ 0) }
     ensures unchanged { OnErr result (atlas.new ≡ atlas.old) }
     ensures grows { Grows atlas.old atlas.new }
 {
+    // an atlas with room and one more move begins as the atlas did
     atlas_laws();
     atlas.reserve(1)?;
     Ok(atlas.push_relabel(from, to, r.kept_images()))

@@ -1,5 +1,14 @@
 -- The maps of flips and backward flips: they respect inverses, and undo each other.
-use Rattle.std.proofs.Common.{ℤ, Bool, List, [], ◌∷◌, ◌++◌, ◌≡◌, ◌≢◌, inl, inr, refl, sym, ◌∙◌, ap, append_assoc, if◌then◌else◌}
+--
+-- Let e be the diagonal and a, b, c, d the other sides, (e,a,b) and (~e,c,d) the triangles. The flip moves b and d to
+-- the other triangles, so a step across b now begins with a step across e, and a step across d with one across ~e:
+-- write u(x) for what is put before x, so u(b) = e, u(d) = ~e and u(x) is empty otherwise. The image of x is u(x) x
+-- u(~x)^-1, and that of ~x is u(~x) ~x u(x)^-1, its inverse.
+--
+-- The backward flip puts u(x)^-1 before x. Both maps keep e, which is none of b, d, ~b and ~d; so they keep u(x), and
+-- one after the other takes x to u(x) u(x)^-1 x u(~x) u(~x)^-1, which reduces to x.
+use Rattle.std.proofs.Common.{ℤ, Bool, List, [], ◌∷◌, ◌++◌, ◌≡◌, ◌≢◌, inl, inr, refl, sym, ◌∙◌, ap, append_assoc}
+use Rattle.std.proofs.Common.{if◌then◌else◌}
 use Rattle.std.specs.Ordering.{int_eq}
 use Rattle.std.specs.List.{flat_map}
 use Rattle.std.proofs.lemmas.List.{append-nil}
@@ -58,7 +67,8 @@ module _ (laws : LowerLaws) where
       go : Side b d x → step_before (inverse e) b d x ≡ inverse_word (step_before e b d x)
       go (at_b h) = step_before-b (inverse e) b d x h ∙ ap inverse_word (sym (step_before-b e b d x h))
       go (at_d n h) = step_before-d (inverse e) b d x n h ∙ ap inverse_word (sym (step_before-d e b d x n h))
-      go (elsewhere n m) = step_before-other (inverse e) b d x n m ∙ ap inverse_word (sym (step_before-other e b d x n m))
+      go (elsewhere n m) =
+          step_before-other (inverse e) b d x n m ∙ ap inverse_word (sym (step_before-other e b d x n m))
 
   -- ---- the map of a flip respects inverses
 
@@ -98,7 +108,8 @@ module _ (laws : LowerLaws) where
   flip_image-edge_inverse e b d h = flip_image-odd (inverse e) b d e ∙ ap inverse_word (flip_image-edge e b d h)
 
   -- and so what it put before a letter
-  flat_map-step_before : (e b d x : ℤ) → IsApart e b d → flat_map (flip_image (inverse e) b d) (step_before e b d x) ≡ step_before e b d x
+  flat_map-step_before : (e b d x : ℤ) → IsApart e b d
+      → flat_map (flip_image (inverse e) b d) (step_before e b d x) ≡ step_before e b d x
   flat_map-step_before e b d x h = go (side_of_flip b d x)
     where
       through : (w : List ℤ) → step_before e b d x ≡ w → flat_map (flip_image (inverse e) b d) w ≡ w
@@ -106,12 +117,16 @@ module _ (laws : LowerLaws) where
       through w is kept = ap (flat_map (flip_image (inverse e) b d)) is ∙ kept ∙ sym is
 
       go : Side b d x → flat_map (flip_image (inverse e) b d) (step_before e b d x) ≡ step_before e b d x
-      go (at_b k) = through (e ∷ []) (step_before-b e b d x k) (append-nil (flip_image (inverse e) b d e) ∙ flip_image-edge e b d h)
+      go (at_b k) =
+          through (e ∷ []) (step_before-b e b d x k)
+          (append-nil (flip_image (inverse e) b d e) ∙ flip_image-edge e b d h)
       go (at_d n k) =
-          through (inverse e ∷ []) (step_before-d e b d x n k) (append-nil (flip_image (inverse e) b d (inverse e)) ∙ flip_image-edge_inverse e b d h)
+          through (inverse e ∷ []) (step_before-d e b d x n k)
+          (append-nil (flip_image (inverse e) b d (inverse e)) ∙ flip_image-edge_inverse e b d h)
       go (elsewhere n m) = through [] (step_before-other e b d x n m) refl
 
-  pub flip_image-undone : (e b d x : ℤ) → IsApart e b d → after (flip_image (inverse e) b d) (flip_image e b d) x ≡ x ∷ []
+  pub flip_image-undone : (e b d x : ℤ) → IsApart e b d
+      → after (flip_image (inverse e) b d) (flip_image e b d) x ≡ x ∷ []
   flip_image-undone e b d x h =
       ap reduce
       (flat_map-append back here (x ∷ inverse_word there)
@@ -132,13 +147,18 @@ module _ (laws : LowerLaws) where
       there : List ℤ
       there = step_before e b d (inverse x)
 
-      there_back : flat_map (flip_image (inverse e) b d) (inverse_word (step_before e b d (inverse x))) ≡ inverse_word (step_before e b d (inverse x))
+      there_back : flat_map (flip_image (inverse e) b d) (inverse_word (step_before e b d (inverse x)))
+          ≡ inverse_word (step_before e b d (inverse x))
       there_back =
-          flat_map-inverse_word laws (flip_image (inverse e) b d) (step_before e b d (inverse x)) (flip_image-odd (inverse e) b d)
+          flat_map-inverse_word laws (flip_image (inverse e) b d) (step_before e b d (inverse x))
+          (flip_image-odd (inverse e) b d)
           ∙ ap inverse_word (flat_map-step_before e b d (inverse x) h)
 
       back_is : flip_image (inverse e) b d x ≡ inverse_word (step_before e b d x) ++ (x ∷ step_before e b d (inverse x))
       back_is =
-          ap (λ (z : List ℤ). z ++ (x ∷ inverse_word (step_before (inverse e) b d (inverse x)))) (step_before-inverse e b d x)
-          ∙ ap (λ (z : List ℤ). inverse_word (step_before e b d x) ++ (x ∷ inverse_word z)) (step_before-inverse e b d (inverse x))
-          ∙ ap (λ (z : List ℤ). inverse_word (step_before e b d x) ++ (x ∷ z)) (laws.words.inverses.twice (step_before e b d (inverse x)))
+          ap (λ (z : List ℤ). z ++ (x ∷ inverse_word (step_before (inverse e) b d (inverse x))))
+          (step_before-inverse e b d x)
+          ∙ ap (λ (z : List ℤ). inverse_word (step_before e b d x) ++ (x ∷ inverse_word z))
+          (step_before-inverse e b d (inverse x))
+          ∙ ap (λ (z : List ℤ). inverse_word (step_before e b d x) ++ (x ∷ z))
+          (laws.words.inverses.twice (step_before e b d (inverse x)))

@@ -11,4 +11,3 @@ pub mod Kept
 pub mod AtlasPaths
 pub mod Growth
 pub mod Ways
-pub mod Turn

@@ -1,4 +1,13 @@
 -- The maps of paths: they respect inverses, follow each other where paths do, and are undone by the path backwards.
+--
+-- The map of a path is built up move by move behind the identity, and reduced after each move. Behind any map f whose
+-- images are reduced the same moves give the map of the path after f: by induction on the moves, since a word may be
+-- reduced before it is mapped. This gives the map of two paths joined, and that of a first move followed by a path.
+--
+-- A path and the same path backwards run along the first move, along the rest and back, and along the first move
+-- backwards. The rest and back is the identity on the labels of the triangulation after the first move, by induction,
+-- and the letters of the image of a label are such labels. What is left is the first move and its backward move,
+-- which undo each other.
 use Rattle.std.proofs.Common.{ℤ, List, [], ◌∷◌, ◌++◌, ◌≡◌, refl, sym, ◌∙◌, ap, append_assoc, map}
 use Rattle.std.specs.List.{All, flat_map}
 use Rattle.std.proofs.lemmas.List.{append-nil, reverse-append}
@@ -20,9 +29,11 @@ flat_map-identity (x ∷ w) = ap (λ (z : List ℤ). x ∷ z) (flat_map-identity
 
 flat_map-same : (f g : ℤ → List ℤ) (w : List ℤ) → ((x : ℤ) → f x ≡ g x) → flat_map f w ≡ flat_map g w
 flat_map-same f g [] e = refl
-flat_map-same f g (x ∷ w) e = ap (λ (z : List ℤ). z ++ flat_map f w) (e x) ∙ ap (λ (z : List ℤ). g x ++ z) (flat_map-same f g w e)
+flat_map-same f g (x ∷ w) e =
+    ap (λ (z : List ℤ). z ++ flat_map f w) (e x) ∙ ap (λ (z : List ℤ). g x ++ z) (flat_map-same f g w e)
 
-flat_map-same_at : (P : ℤ → Type 0) (f g : ℤ → List ℤ) (w : List ℤ) → All P w → ((x : ℤ) → P x → f x ≡ g x) → flat_map f w ≡ flat_map g w
+flat_map-same_at : (P : ℤ → Type 0) (f g : ℤ → List ℤ) (w : List ℤ) → All P w → ((x : ℤ) → P x → f x ≡ g x)
+    → flat_map f w ≡ flat_map g w
 flat_map-same_at P f g [] h e = refl
 flat_map-same_at P f g (x ∷ w) h e =
     ap (λ (z : List ℤ). z ++ flat_map f w) (e x (All-head P x w h))
@@ -34,7 +45,8 @@ module _ (laws : LowerLaws) where
   map_behind-odd : (f : ℤ → List ℤ) (moves : List Move) → IsOdd f → IsOdd (map_behind f moves)
   map_behind-odd f [] odd = odd
   map_behind-odd f (m ∷ moves) odd =
-      map_behind-odd (after (image_of_letter m) f) moves (IsOdd-after laws f (image_of_letter m) odd (image_of_letter-odd laws m))
+      map_behind-odd (after (image_of_letter m) f) moves
+      (IsOdd-after laws f (image_of_letter m) odd (image_of_letter-odd laws m))
 
   pub path_map-odd : (moves : List Move) → IsOdd (path_map moves)
   path_map-odd moves = map_behind-odd identity moves (λ x. refl)
@@ -44,7 +56,8 @@ module _ (laws : LowerLaws) where
       → (x : ℤ) → reduce (map_behind f moves x) ≡ map_behind f moves x
   map_behind-reduced f [] h x = h x
   map_behind-reduced f (m ∷ moves) h x =
-      map_behind-reduced (after (image_of_letter m) f) moves (λ y. laws.words.reduction.twice (flat_map (image_of_letter m) (f y))) x
+      map_behind-reduced (after (image_of_letter m) f) moves
+      (λ y. laws.words.reduction.twice (flat_map (image_of_letter m) (f y))) x
 
   -- a path behind a map is the map of the path, after the first map
   map_behind-is : (f : ℤ → List ℤ) (moves : List Move) → ((x : ℤ) → reduce (f x) ≡ f x)
@@ -53,9 +66,12 @@ module _ (laws : LowerLaws) where
   map_behind-is f (m ∷ moves) h x =
       map_behind-is (after first f) moves (λ y. laws.words.reduction.twice (flat_map first (f y))) x
       ∙ reduce-flat_map_reduce laws rest (flat_map first (f x)) (path_map-odd moves)
-      ∙ flat_map-respects laws rest (flat_map first (f x)) (flat_map (after first identity) (f x)) (path_map-odd moves) same_reduction
+      ∙ flat_map-respects laws rest (flat_map first (f x)) (flat_map (after first identity) (f x))
+      (path_map-odd moves) same_reduction
       ∙ sym (flat_map-after laws (after first identity) rest (f x))
-      ∙ ap reduce (sym (flat_map-same (path_map (m ∷ moves)) (after rest (after first identity)) (f x) (map_behind-is (after first identity) moves reduced)))
+      ∙ ap reduce
+      (sym (flat_map-same (path_map (m ∷ moves)) (after rest (after first identity)) (f x)
+      (map_behind-is (after first identity) moves reduced)))
     where
       first : ℤ → List ℤ
       first y = image_of_letter m y
@@ -66,24 +82,29 @@ module _ (laws : LowerLaws) where
       reduced : (y : ℤ) → reduce (after (image_of_letter m) identity y) ≡ after (image_of_letter m) identity y
       reduced y = laws.words.reduction.twice (flat_map (image_of_letter m) (identity y))
 
-      same_reduction : reduce (flat_map (image_of_letter m) (f x)) ≡ reduce (flat_map (after (image_of_letter m) identity) (f x))
+      same_reduction : reduce (flat_map (image_of_letter m) (f x))
+          ≡ reduce (flat_map (after (image_of_letter m) identity) (f x))
       same_reduction =
           ap (λ (w : List ℤ). reduce (flat_map (image_of_letter m) w)) (sym (flat_map-identity (f x)))
           ∙ sym (flat_map-after laws identity (image_of_letter m) (f x))
 
-  map_behind-append : (f : ℤ → List ℤ) (first second : List Move) (x : ℤ) → map_behind f (first ++ second) x ≡ map_behind (map_behind f first) second x
+  map_behind-append : (f : ℤ → List ℤ) (first second : List Move) (x : ℤ)
+      → map_behind f (first ++ second) x ≡ map_behind (map_behind f first) second x
   map_behind-append f [] second x = refl
   map_behind-append f (m ∷ first) second x = map_behind-append (after (image_of_letter m) f) first second x
 
-  pub path_map-join : (first second : List Move) (x : ℤ) → path_map (first ++ second) x ≡ after (path_map second) (path_map first) x
+  pub path_map-join : (first second : List Move) (x : ℤ)
+      → path_map (first ++ second) x ≡ after (path_map second) (path_map first) x
   path_map-join first second x =
       map_behind-append identity first second x
       ∙ map_behind-is (path_map first) second (map_behind-reduced identity first (λ y. refl)) x
 
   -- the map of a path is that of its first move, and then that of the others
-  path_map-cons : (m : Move) (moves : List Move) (x : ℤ) → path_map (m ∷ moves) x ≡ after (path_map moves) (image_of_letter m) x
+  path_map-cons : (m : Move) (moves : List Move) (x : ℤ)
+      → path_map (m ∷ moves) x ≡ after (path_map moves) (image_of_letter m) x
   path_map-cons m moves x =
-      map_behind-is (after (image_of_letter m) identity) moves (λ y. laws.words.reduction.twice (flat_map (image_of_letter m) (identity y))) x
+      map_behind-is (after (image_of_letter m) identity) moves
+      (λ y. laws.words.reduction.twice (flat_map (image_of_letter m) (identity y))) x
       ∙ reduce-flat_map_reduce laws (path_map moves) (flat_map (image_of_letter m) (identity x)) (path_map-odd moves)
       ∙ ap (λ (w : List ℤ). reduce (flat_map (path_map moves) w)) (append-nil (image_of_letter m x))
 
@@ -100,11 +121,13 @@ module _ (laws : LowerLaws) where
 
   -- a move, moves that lead back to each letter, and a move
   path_map-around : (P : ℤ → Type 0) (m : Move) (moves : List Move) (n : Move) (x : ℤ) → All P (image_of_letter m x)
-      → ((y : ℤ) → P y → path_map moves y ≡ y ∷ []) → path_map (m ∷ (moves ++ (n ∷ []))) x ≡ after (image_of_letter n) (image_of_letter m) x
+      → ((y : ℤ) → P y → path_map moves y ≡ y ∷ [])
+      → path_map (m ∷ (moves ++ (n ∷ []))) x ≡ after (image_of_letter n) (image_of_letter m) x
   path_map-around P m moves n x letters h =
       path_map-cons m (moves ++ (n ∷ [])) x
       ∙ ap reduce
-      (flat_map-same_at P (path_map (moves ++ (n ∷ []))) (after (image_of_letter n) identity) (image_of_letter m x) letters
+      (flat_map-same_at P (path_map (moves ++ (n ∷ []))) (after (image_of_letter n) identity)
+      (image_of_letter m x) letters
       (λ y p. path_map-then moves n y (h y p)))
       ∙ flat_map-after laws identity (image_of_letter n) (image_of_letter m x)
       ∙ ap (λ (w : List ℤ). reduce (flat_map (image_of_letter n) w)) (flat_map-identity (image_of_letter m x))
@@ -117,7 +140,8 @@ module _ (laws : LowerLaws) where
   path_undone before target [] x t h l = refl
   path_undone before target (m ∷ moves) x t (between, b, move, rest) l =
       ap (λ (ms : List Move). path_map (m ∷ ms) x)
-      (ap (λ (ms : List Move). moves ++ ms) (back_along-cons m moves) ∙ sym (append_assoc moves (back_along moves) (back_of m ∷ [])))
+      (ap (λ (ms : List Move). moves ++ ms) (back_along-cons m moves)
+      ∙ sym (append_assoc moves (back_along moves) (back_of m ∷ [])))
       ∙ path_map-around (IsLabel between) m (moves ++ back_along moves) (back_of m) x
       (image_of_letter-labels laws before between m x move l)
       (λ y k. path_undone between target moves y b rest k)

@@ -1,4 +1,13 @@
 -- Substitutions that respect inverses go with reductions, with each other, and with closed words.
+--
+-- Let f put a word f(x) in the place of each letter x, with f(x^-1) = f(x)^-1. Where a word has a letter beside its
+-- inverse, its image has f(x) beside f(x)^-1, which cancel: so a word may be reduced before it is mapped, and the
+-- reduced image depends on the reduced word alone. One substitution after another is then the one whose images of
+-- letters are mapped and reduced.
+--
+-- A closed word w reduces to p c p^-1 with c its cyclic reduction. Its image reduces as f(p) f(c) f(p)^-1 does, which
+-- is a conjugate of f(c), and conjugate words have cyclic reductions that are rotations of each other. A rotation of
+-- w splits it in two, so the images are rotations of each other too.
 use Rattle.std.proofs.Common.{ℤ, Bool, cond, List, [], ◌∷◌, ◌++◌, ◌≡◌, inl, inr, refl, sym, ◌∙◌, ap, subst}
 use Rattle.std.specs.List.{flat_map}
 use Rattle.std.proofs.lemmas.List.{append-nil}
@@ -13,7 +22,8 @@ use Rattle.tri_atlas.proofs.LowerLaws.{LowerLaws}
 module _ (laws : LowerLaws) where
   -- ---- words
 
-  pub flat_map-inverse_word : (f : ℤ → List ℤ) (w : List ℤ) → IsOdd f → flat_map f (inverse_word w) ≡ inverse_word (flat_map f w)
+  pub flat_map-inverse_word : (f : ℤ → List ℤ) (w : List ℤ) → IsOdd f
+      → flat_map f (inverse_word w) ≡ inverse_word (flat_map f w)
   flat_map-inverse_word f [] odd = refl
   flat_map-inverse_word f (x ∷ w) odd =
       flat_map-append f (inverse_word w) (inverse x ∷ [])
@@ -24,7 +34,8 @@ module _ (laws : LowerLaws) where
   -- ---- reductions
 
   -- the image of a letter cancels that of its inverse
-  reduce-flat_map_push : (f : ℤ → List ℤ) (x : ℤ) (w : List ℤ) → IsOdd f → reduce (flat_map f (push x w)) ≡ reduce (f x ++ flat_map f w)
+  reduce-flat_map_push : (f : ℤ → List ℤ) (x : ℤ) (w : List ℤ) → IsOdd f
+      → reduce (flat_map f (push x w)) ≡ reduce (f x ++ flat_map f w)
   reduce-flat_map_push f x [] odd = refl
   reduce-flat_map_push f x (y ∷ w) odd =
       elim (laws.labels.same_or_not y (inverse x)) [
@@ -32,28 +43,35 @@ module _ (laws : LowerLaws) where
             (ap (λ (b : Bool). reduce (flat_map f (cond b w (x ∷ (y ∷ w))))) (laws.labels.test_same y (inverse x) e)
             ∙ sym (laws.words.reduction.cancel [] (f x) (flat_map f w))
             ∙ ap (λ (z : List ℤ). reduce (f x ++ (z ++ flat_map f w))) (sym (ap f e ∙ odd x)))
-        | inr n ↦ ap (λ (b : Bool). reduce (flat_map f (cond b w (x ∷ (y ∷ w))))) (laws.labels.test_other y (inverse x) n)
+        | inr n ↦ ap (λ (b : Bool). reduce (flat_map f (cond b w (x ∷ (y ∷ w)))))
+            (laws.labels.test_other y (inverse x) n)
       ]
 
   -- a word may be reduced before it is mapped
-  pub reduce-flat_map_reduce : (f : ℤ → List ℤ) (w : List ℤ) → IsOdd f → reduce (flat_map f (reduce w)) ≡ reduce (flat_map f w)
+  pub reduce-flat_map_reduce : (f : ℤ → List ℤ) (w : List ℤ) → IsOdd f
+      → reduce (flat_map f (reduce w)) ≡ reduce (flat_map f w)
   reduce-flat_map_reduce f [] odd = refl
   reduce-flat_map_reduce f (x ∷ w) odd =
       reduce-flat_map_push f x (reduce w) odd
       ∙ laws.words.reduction.right (f x) (flat_map f (reduce w)) (flat_map f w) (reduce-flat_map_reduce f w odd)
 
   -- words with the same reduction have images with the same reduction
-  pub flat_map-respects : (f : ℤ → List ℤ) (u v : List ℤ) → IsOdd f → reduce u ≡ reduce v → reduce (flat_map f u) ≡ reduce (flat_map f v)
+  pub flat_map-respects : (f : ℤ → List ℤ) (u v : List ℤ) → IsOdd f → reduce u ≡ reduce v
+      → reduce (flat_map f u) ≡ reduce (flat_map f v)
   flat_map-respects f u v odd e =
-      sym (reduce-flat_map_reduce f u odd) ∙ ap (λ (z : List ℤ). reduce (flat_map f z)) e ∙ reduce-flat_map_reduce f v odd
+      sym (reduce-flat_map_reduce f u odd) ∙ ap (λ (z : List ℤ). reduce (flat_map f z)) e
+      ∙ reduce-flat_map_reduce f v odd
 
   -- ---- one map after another
 
-  pub flat_map-after : (f g : ℤ → List ℤ) (w : List ℤ) → reduce (flat_map (after g f) w) ≡ reduce (flat_map g (flat_map f w))
+  pub flat_map-after : (f g : ℤ → List ℤ) (w : List ℤ)
+      → reduce (flat_map (after g f) w) ≡ reduce (flat_map g (flat_map f w))
   flat_map-after f g [] = refl
   flat_map-after f g (x ∷ w) =
-      laws.words.reduction.left (after g f x) (flat_map g (f x)) (flat_map (after g f) w) (laws.words.reduction.twice (flat_map g (f x)))
-      ∙ laws.words.reduction.right (flat_map g (f x)) (flat_map (after g f) w) (flat_map g (flat_map f w)) (flat_map-after f g w)
+      laws.words.reduction.left (after g f x) (flat_map g (f x)) (flat_map (after g f) w)
+      (laws.words.reduction.twice (flat_map g (f x)))
+      ∙ laws.words.reduction.right (flat_map g (f x)) (flat_map (after g f) w) (flat_map g (flat_map f w))
+      (flat_map-after f g w)
       ∙ ap reduce (sym (flat_map-append g (f x) (flat_map f w)))
 
   pub IsOdd-after : (f g : ℤ → List ℤ) → IsOdd f → IsOdd g → IsOdd (after g f)
@@ -77,7 +95,8 @@ module _ (laws : LowerLaws) where
       ∙ ap (λ (z : List ℤ). flat_map f p ++ z) (sym (flat_map-append f core (inverse_word p)))
       ∙ sym (flat_map-append f p (core ++ inverse_word p))
       ∙ ap (flat_map f) (sym shape) in
-      laws.words.cyclic.conjugate q (flat_map f core) (flat_map f w) (ap reduce between ∙ reduce-flat_map_reduce f w odd)
+      laws.words.cyclic.conjugate q (flat_map f core) (flat_map f w)
+      (ap reduce between ∙ reduce-flat_map_reduce f w odd)
 
   Rotation-flat_map : (f : ℤ → List ℤ) (u v : List ℤ) → IsRotation u v → IsRotation (flat_map f u) (flat_map f v)
   Rotation-flat_map f u v (a, b, e, g) = (
@@ -87,10 +106,12 @@ module _ (laws : LowerLaws) where
     ap (flat_map f) g ∙ flat_map-append f b a,
   )
 
-  SameCurve-flat_map : (f : ℤ → List ℤ) (u v : List ℤ) → IsOdd f → IsSameCurve u v → IsSameCurve (flat_map f u) (flat_map f v)
+  SameCurve-flat_map : (f : ℤ → List ℤ) (u v : List ℤ) → IsOdd f → IsSameCurve u v
+      → IsSameCurve (flat_map f u) (flat_map f v)
   SameCurve-flat_map f u v odd (inl r) = inl (Rotation-flat_map f u v r)
   SameCurve-flat_map f u v odd (inr r) =
-      inr (subst (λ (z : List ℤ). IsRotation z (flat_map f v)) (flat_map-inverse_word f u odd) (Rotation-flat_map f (inverse_word u) v r))
+      inr (subst (λ (z : List ℤ). IsRotation z (flat_map f v)) (flat_map-inverse_word f u odd)
+      (Rotation-flat_map f (inverse_word u) v r))
 
   -- ---- the laws
 
@@ -101,5 +122,6 @@ module _ (laws : LowerLaws) where
     compose = λ f g w odd_f odd_g. flat_map-after f g w;
     odd = IsOdd-after;
     cyclic = cyclic_reduce-flat_map;
-    curve = λ f u v odd same. laws.words.curves.reduced (flat_map f u) (flat_map f v) (SameCurve-flat_map f u v odd same);
+    curve = λ f u v odd same. laws.words.curves.reduced (flat_map f u) (flat_map f v)
+        (SameCurve-flat_map f u v odd same);
   }

@@ -18,12 +18,14 @@ pub IsMap-same : (source target : List (List ℤ)) (f f' : ℤ → List ℤ) (g 
 IsMap-same source target f f' g e h = record {
   odd = λ x. sym (e (inverse x)) ∙ h.odd x ∙ ap inverse_word (e x);
   within = h.within;
-  walks = λ x l. subst (λ (w : List ℤ). IsWalk target (g (triangle_of source x)) w (g (triangle_of source (inverse x)))) (e x) (h.walks x l);
+  walks = λ x l. subst (λ (w : List ℤ). IsWalk target (g (triangle_of source x)) w (g (triangle_of source (inverse x))))
+      (e x) (h.walks x l);
 }
 
 module _ (laws : LowerLaws) where
   pub image_of_walk : (source target : List (List ℤ)) (f : ℤ → List ℤ) (g : ℕ → ℕ) (s t : ℕ) (w : List ℤ)
-      → IsTriangulation target → IsMap source target f g → IsWalk source s w t → IsWalk target (g s) (flat_map f w) (g t)
+      → IsTriangulation target → IsMap source target f g → IsWalk source s w t
+      → IsWalk target (g s) (flat_map f w) (g t)
   image_of_walk source target f g s t [] sound h walk = ap g walk
   image_of_walk source target f g s t (x ∷ w) sound h (label, at, rest) =
       (laws.surfaces.walks target sound).join (g s) (g (triangle_of source (inverse x))) (g t) (f x) (flat_map f w)
@@ -34,10 +36,12 @@ module _ (laws : LowerLaws) where
       → IsTriangulation target → IsMap source target f g → IsWalk source s w t
       → IsWalk target (g s) (reduce (flat_map f w)) (g t)
   reduced_image_of_walk source target f g s t w sound h walk =
-      (laws.surfaces.walks target sound).reduced (g s) (g t) (flat_map f w) (image_of_walk source target f g s t w sound h walk)
+      (laws.surfaces.walks target sound).reduced (g s) (g t) (flat_map f w)
+      (image_of_walk source target f g s t w sound h walk)
 
   pub IsMap-after : (source between target : List (List ℤ)) (f f' : ℤ → List ℤ) (g g' : ℕ → ℕ)
-      → IsTriangulation target → IsMap source between f g → IsMap between target f' g' → IsMap source target (after f' f) (λ t. g' (g t))
+      → IsTriangulation target → IsMap source between f g → IsMap between target f' g'
+      → IsMap source target (after f' f) (λ t. g' (g t))
   IsMap-after source between target f f' g g' sound h k = record {
     odd = IsOdd-after laws f f' h.odd k.odd;
     within = λ t l. k.within (g t) (h.within t l);

@@ -5,8 +5,8 @@ use Rattle.ideal_tri.specs.Triangulations.{IsTriangulation, IsLabel, triangle_of
 use Rattle.ideal_tri.specs.Relabellings.{image_of, inverse_images, IsRelabelling}
 use Rattle.ideal_tri.specs.Flips.{IsFlippable, flipped}
 
--- a flip with the sides (e,a,b) and (~e,c,d) before it; a backward flip names the sides as its flip did;
--- a relabelling lists the images of the labels 0 to n - 1
+-- a flip with the sides (e,a,b) and (~e,c,d) before it; a backward flip, which names the sides as
+-- its flip did; and a relabelling, which lists the images of the labels 0 to n - 1
 pub data Move : Type 0 where
   flip : (e a b c d : ℤ) → Move
   unflip : (e a b c d : ℤ) → Move
@@ -37,7 +37,9 @@ back_of (relabel images) = relabel (inverse_images images)
 -- the moves follow each other, from triangulation to triangulation
 abbrev pub ArePath : List (List ℤ) → List Move → List (List ℤ) → Type 0
 ArePath before [] after = before ≡ after
-ArePath before (m ∷ moves) after = (between : List (List ℤ)) × IsTriangulation between × IsMove before between m × ArePath between moves after
+ArePath before (m ∷ moves) after =
+    (between : List (List ℤ)) × IsTriangulation between × IsMove before between m
+    × ArePath between moves after
 
 -- the moves backwards
 abbrev pub back_along : List Move → List Move
@@ -52,4 +54,5 @@ first_side triples t = slice_index_or (slice_index_or triples t []) 0 (pos 0)
 abbrev pub triangle_image : List (List ℤ) → List (List ℤ) → Move → ℕ → ℕ
 triangle_image before target (flip e a b c d) t = t
 triangle_image before target (unflip e a b c d) t = t
-triangle_image before target (relabel images) t = triangle_of target (image_of images (first_side before t))
+triangle_image before target (relabel images) t =
+    triangle_of target (image_of images (first_side before t))

@@ -1,6 +1,5 @@
 -- What the program's steps mean as moves, and the edge that was carried across one.
 use Rattle.std.specs.Prelude.{ℕ, Bool, true, false, take}
-use Rattle.ideal_tri.specs.Relabellings.{IsBijection}
 use Rattle.tri_atlas.specs.Moves.{Move, flip, unflip, relabel}
 use Rattle.tri_atlas.specs.Arena.{EdgeHandle}
 use Rattle.tri_atlas.specs.declared.step.Step.{Step}
@@ -13,12 +12,6 @@ abbrev pub move_of : ℕ → Step → Move
 move_of n (Flip e a b c d) = flip e a b c d
 move_of n (Unflip e a b c d) = unflip e a b c d
 move_of n (Relabel images) = relabel (take n images)
-
--- the images of a relabelling are those of a bijection of labels
-abbrev pub IsBijective : Move → Type 0
-IsBijective (flip e a b c d) = Unit {0}
-IsBijective (unflip e a b c d) = Unit {0}
-IsBijective (relabel images) = IsBijection images
 
 -- the edge after the move
 abbrev pub edge_in : Carried → EdgeHandle

@@ -1,5 +1,7 @@
--- How a `Tri` lays out its triples: an array of them, and a table that says where each label stands.
-use Rattle.std.specs.Prelude.{◌≡◌, ◌≢◌, ◌<◌, ◌≤◌, ◌+◌, ◌-◌, ℕ, ℤ, pos, negsuc, List, [], ◌∷◌, length, take, drop, replicate, slice_set, slice_index_or, All}
+-- How a `Tri` lays out its triples: an array of them, and a table that says where each label
+-- stands.
+use Rattle.std.specs.Prelude.{◌≡◌, ◌≢◌, ◌<◌, ◌≤◌, ◌+◌, ◌-◌, ℕ, ℤ, pos, negsuc, List, [], ◌∷◌}
+use Rattle.std.specs.Prelude.{length, take, drop, replicate, slice_set, slice_index_or, All}
 use Rattle.ideal_tri.specs.declared.tri.TheConstants.{EDGES, LABELS, NOWHERE, TRIANGLES}
 use Rattle.ideal_tri.specs.Labels.{inverse, edge_of}
 use Rattle.ideal_tri.specs.Triangulations.{labels_of, IsLabel, triangle_of, IsTriangulation}
@@ -35,9 +37,11 @@ spare_triples n = replicate n (pos 0 ∷ (pos 0 ∷ (pos 0 ∷ [])))
 pub record IsPlaced (xs : List ℤ) (places : List ℕ) : Type 0 where
   pub room : length places ≡ LABELS
   pub table : places ≡ places_of xs
-  pub free : (x : ℤ) → edge_of x < EDGES → slice_index_or places (key_of x) 0 ≡ NOWHERE → (k : ℕ) → k < length xs → slice_index_or xs k (pos 0) ≢ x
+  pub free : (x : ℤ) → edge_of x < EDGES → slice_index_or places (key_of x) 0 ≡ NOWHERE → (k : ℕ)
+      → k < length xs → slice_index_or xs k (pos 0) ≢ x
   pub used : (x : ℤ) → edge_of x < EDGES → slice_index_or places (key_of x) 0 ≢ NOWHERE
-      → (slice_index_or places (key_of x) 0 < length xs) × (slice_index_or xs (slice_index_or places (key_of x) 0) (pos 0) ≡ x)
+      → (slice_index_or places (key_of x) 0 < length xs)
+      × (slice_index_or xs (slice_index_or places (key_of x) 0) (pos 0) ≡ x)
   pub distinct : IsDistinct xs
 
 -- triples whose labels are within the range and all different, and their table of places

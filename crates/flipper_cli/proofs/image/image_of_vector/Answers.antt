@@ -1,17 +1,12 @@
-use Rattle.std.proofs.Common.{rules, ◌≡◌, ◌<◌, ℕ, length, ◌∙◌, ap, subst}
-use Rattle.ideal_tri.specs.Triangulations.{edge_count}
+use Rattle.std.proofs.Common.{rules}
 use Rattle.ideal_tri.specs.Vectors.{IsMulticurve}
 use Rattle.flipper_cli.specs.Coordinates.{IsMoved}
 use Rattle.flipper_cli.specs.KeptSurface.{surface_of}
 use Rattle.flipper_cli.proofs.Counted.{counted}
 use Rattle.flipper_cli.proofs.image.image_of_vector.Goals as goal
 
-pub moved-requires-clause-bijective : goal.moved-requires-clause-bijective
-moved-requires-clause-bijective c = λ e below.
-    let good : IsMulticurve c.args.surface.now.tri c.in-Some.multicurve.items = search rules in
-    let long : length c.deref-2.result.now ≡ edge_count c.args.surface.now.tri =
-    ap length c.deref-2.ensures.value ∙ good.one_per_edge in
-    c.requires.relabels.bijective e (subst (λ (n : ℕ). e < n) long below)
+pub moved-requires-clause-bijection : goal.moved-requires-clause-bijection
+moved-requires-clause-bijection c = c.relabelling_laws.ensures.bijection _ _ _ c.requires.relabels
 
 pub returns-clause-printed : goal.returns-clause-printed
 returns-clause-printed c =

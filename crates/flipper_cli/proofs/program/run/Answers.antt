@@ -17,7 +17,7 @@ returns-clause-quiet g c = λ files over quiet.
 
 pub returns-clause-lacking : goal.returns-clause-lacking
 returns-clause-lacking g c = λ files told lack.
-    lacking _ files c.work-made.result _ _ _ _ _ (c.work-made.ensures.report files (inl told)) c.deliver.ensures.written lack
+    lacking c.work-made.result _ _ _ _ _ ((c.work-made.ensures.lacks files told).1 lack) c.deliver.ensures.written
 
 pub returns-clause-silent : goal.returns-clause-silent
 returns-clause-silent g c = silent c.work-made.result _ _ _ _ _ c.deliver.ensures.written

@@ -1,5 +1,6 @@
 use Rattle.std.proofs.Common.{◌≡◌, ◌⊎◌, ℕ, List, Option, Some, subst, sym, refl, inl, inr, Result, Ok, Err, Vec, Global, IfOk, Bor, ap, ◌∙◌}
 use Rattle.flip_io.specs.Files.{Files}
+use Rattle.flip_io.specs.Reads.{AfterReads, no_read}
 use Rattle.flipper_cli.specs.Answers.{Report, refused}
 use Rattle.flipper_cli.specs.declared.report.Refusal.{Refusal}
 use Rattle.flipper_cli.specs.declared.report.Refusal.TheVariants.{Failed, Memory}
@@ -47,6 +48,14 @@ printed_image o file word coordinates files r is h =
     let Prints : Option Command → Type 0 = λ p. IfOk r (λ bytes. IsHeadline p files bytes.items) in
     subst Prints (sym is) h
 
+-- the names that are read are those that the words read
+read_by : {S : Type 0} (o : Option Command) (file word coordinates : List ℕ) (after_read : S → List ℕ → S → Type 0) (s t : S)
+    → o ≡ Some (image file word coordinates) → AfterReads after_read (λ read. read ≡ file) s t
+    → AfterReads after_read (IsReadBy o) s t
+read_by o file word coordinates after_read s t is reads =
+    let Reads : Option Command → Type 0 = λ p. AfterReads after_read (IsReadBy p) s t in
+    subst Reads (sym is) reads
+
 -- and over any shelf for some files
 some_image : (o : Option Command) (file word coordinates : List ℕ) (r : Result (Vec ℕ Global) Refusal)
     → o ≡ Some (image file word coordinates)
@@ -63,6 +72,16 @@ returns-in-Some-Image-clause-report g c = λ files over.
     let is = c.in-Some-Image.ensures ∙ ap (λ (a : Asked). Some (seen a)) e.is in
     let answer = rw e.is at (c.image_of_file.ensures.report files) in
     reported _ _ _ _ _ files _ is over answer
+
+pub returns-in-None-clause-reads : goal.returns-in-None-clause-reads
+returns-in-None-clause-reads g c = no_read _
+
+pub returns-in-Some-Image-clause-reads : goal.returns-in-Some-Image-clause-reads
+returns-in-Some-Image-clause-reads g c =
+    let e = as_image c.in-Some-Image.field-0 in
+    let is = c.in-Some-Image.ensures ∙ ap (λ (a : Asked). Some (seen a)) e.is in
+    let reads = rw e.is at c.image_of_file.ensures.reads in
+    read_by _ _ _ _ _ _ _ is reads
 
 pub returns-in-Some-Image-clause-headline : goal.returns-in-Some-Image-clause-headline
 returns-in-Some-Image-clause-headline g c = λ files told.

@@ -1,5 +1,4 @@
-use Rattle.std.proofs.Common.{◌≡◌, ◌<◌, ℕ, length, refl, arith, subst, sym}
-use Rattle.ideal_tri.specs.Triangulations.{IsReached}
+use Rattle.std.proofs.Common.{◌<◌, length, refl, arith}
 use Rattle.ideal_tri.proofs.Walks.{reached_here}
 use Rattle.ideal_tri.proofs.Components.{least_found}
 use Rattle.ideal_tri.proofs.component.least_triangle.Goals as goal

@@ -1,4 +1,4 @@
-use Rattle.std.proofs.Common.{◌≡◌, ◌<◌, ◌≤◌, ◌∙◌, ℕ, ℤ, replicate, List, true, false, inl, inr, refl, length, get_or, set, ap, sym, arith}
+use Rattle.std.proofs.Common.{◌≡◌, ◌<◌, ◌≤◌, ◌∙◌, ℤ, replicate, List, true, false, inl, inr, length, arith}
 use Rattle.std.proofs.lemmas.List.{length-set, length-replicate}
 use Rattle.ideal_tri.specs.declared.tri.TheConstants.{TRIANGLES}
 use Rattle.ideal_tri.specs.Labels.{inverse}
@@ -6,7 +6,8 @@ use Rattle.ideal_tri.specs.Triangulations.{triangle_of}
 use Rattle.ideal_tri.proofs.Places.{small_size}
 use Rattle.ideal_tri.proofs.Triangles.{triangle_laws}
 use Rattle.ideal_tri.proofs.Walks.{reached_along}
-use Rattle.ideal_tri.proofs.Reaching.{IsClosed, marked, marked_first, none_done, was_marked, fewer_unmarked, reached_marked}
+use Rattle.ideal_tri.proofs.Reaching.{IsClosed, marked, marked_first, none_done, was_marked, fewer_unmarked}
+use Rattle.ideal_tri.proofs.Reaching.{reached_marked}
 use Rattle.ideal_tri.proofs.component.reached_from.Goals as goal
 
 pub loop-t-init : goal.loop-t-init

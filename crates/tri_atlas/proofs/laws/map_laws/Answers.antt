@@ -15,4 +15,9 @@ returns c =
       bijections = c.bijection_laws.ensures;
       relabellings = c.relabelling_laws.ensures;
     } in
-    record { substitutions = substitution_laws laws; walks = walk_map_laws laws; moves = move_laws laws; paths = path_laws laws }
+    record {
+      substitutions = substitution_laws laws;
+      walks = walk_map_laws laws;
+      moves = move_laws laws;
+      paths = path_laws laws;
+    }

@@ -1,4 +1,4 @@
-use Rattle.std.proofs.Common.{length, arith}
+use Rattle.std.proofs.Common.{arith}
 use Rattle.ideal_tri.proofs.Components.{first_triangles_few}
 use Rattle.ideal_tri.proofs.tri.Tri.components.Goals as goal
 

@@ -1,6 +1,6 @@
 use Rattle.std.proofs.Common.{◌≡◌, ◌∙◌, ◌<◌, ℕ, sym, ap, subst, length, get_or, map}
 use Rattle.tri_atlas.specs.Arena.{Arena, MoveHandle, IsMoveIn}
-use Rattle.tri_atlas.specs.Fields.{entry_of}
+use Rattle.tri_atlas.specs.inside.Fields.{entry_of}
 use Rattle.tri_atlas.proofs.Kept.{step_bijective}
 use Rattle.tri_atlas.proofs.atlas.Atlas.step.Goals as goal
 
