@@ -34,6 +34,7 @@ pub mod Members
 pub mod Nodes
 pub mod Forests
 pub mod Sprouts
+pub mod Sprouting
 pub mod Additions
 pub mod SidesInOrder
 pub mod NodeTurns

@@ -3,3 +3,4 @@ pub mod Turns
 pub mod Images
 pub mod Fields
 pub mod InnerPaths
+pub mod Sprouting

@@ -1,6 +1,7 @@
 //! Maps of walks on the dual graph of a triangulation, and the test whether a map is inner.
 #![tactic(auto)]
 
+mod forest;
 mod images;
 mod inner_maps;
 mod laws;
