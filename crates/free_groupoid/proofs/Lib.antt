@@ -41,6 +41,8 @@ pub mod NodeTurns
 pub mod Growing
 pub mod Planting
 pub mod ForestNodes
+pub mod ForestReads
+pub mod TestedWalks
 pub mod ForestLaws
 pub mod Collapse
 pub mod Loops
