@@ -35,6 +35,10 @@ abbrev pub start_of : List (List ℤ) → ℕ → List ℤ → ℕ
 start_of triples s [] = s
 start_of triples s (x ∷ letters) = triangle_of triples x
 
+-- the walk of these letters, from where the first starts
+abbrev pub walk_of_letters : List (List ℤ) → List ℤ → DualWalk
+walk_of_letters triples letters = record { start = start_of triples 0 letters; letters = letters }
+
 -- the closed walk without such pairs, at its two ends too; it starts where the letters that are left start
 abbrev pub cyclically_reduced_walk : List (List ℤ) → DualWalk → DualWalk
 cyclically_reduced_walk triples w =
