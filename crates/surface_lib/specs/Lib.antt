@@ -1,0 +1,5 @@
+pub mod Pieces
+pub mod Powers
+pub mod Words
+pub mod Refusals
+pub mod Surfaces
