@@ -6,7 +6,7 @@ use Rattle.std.specs.List.{repeat}
 use Rattle.tri_atlas.specs.Moves.{flip, relabel}
 use Rattle.tri_atlas.specs.Arena.{Arena, MoveHandle}
 use Rattle.surface_lib.specs.Words.{Generator}
-use Rattle.surface_lib.specs.Refusals.{word}
+use Rattle.surface_lib.specs.Refusals.{reading}
 use Rattle.surface_lib.specs.declared.error.WordError.{WordError}
 use Rattle.surface_lib.specs.declared.error.WordError.TheVariants.{BadGroup, WordTooLong, EmptyPart, UnknownName, BadPower, PartsOver, FlipsOver, MovesOver}
 
@@ -28,7 +28,7 @@ abbrev generators : List Generator
 generators = record { spelt = codes "a"; moves = m 0 ∷ m 1 ∷ [] } ∷ record { spelt = codes "b"; moves = m 2 ∷ [] } ∷ []
 
 abbrev read : List ℕ → Result (List MoveHandle) WordError
-read s = word arena generators s
+read s = reading arena generators s
 
 -- ---- paths
 

@@ -1,1 +1,4 @@
+pub mod Cuts
+pub mod Lookups
+pub mod Levels
 mod Examples

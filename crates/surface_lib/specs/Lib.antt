@@ -3,3 +3,4 @@ pub mod Powers
 pub mod Words
 pub mod Refusals
 pub mod Surfaces
+pub mod inside

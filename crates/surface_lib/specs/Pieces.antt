@@ -70,10 +70,14 @@ pub data Piece : Type 0 where
   group : (inside power : List ℕ) → Piece
   name : (spelt power : List ℕ) → Piece
 
--- a group ends at the bracket that closes it, a name before the first `^`
+-- behind its first bracket a group ends at the bracket that closes it
+abbrev pub group_behind : List ℕ → Piece
+group_behind s = group (take (before close_bracket 0 s) s) (drop (before close_bracket 0 s + 1) s)
+
+-- a name ends before the first `^`
+abbrev pub name_in : List ℕ → Piece
+name_in s = name (take (before_first power_sign s) s) (drop (before_first power_sign s) s)
+
 abbrev pub piece : List ℕ → Piece
 piece [] = empty
-piece (c ∷ s) =
-    if c == open_bracket
-    then group (take (before close_bracket 0 s) s) (drop (before close_bracket 0 s + 1) s)
-    else name (take (before_first power_sign (c ∷ s)) (c ∷ s)) (drop (before_first power_sign (c ∷ s)) (c ∷ s))
+piece (c ∷ s) = if c == open_bracket then group_behind s else name_in (c ∷ s)

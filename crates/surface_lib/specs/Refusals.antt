@@ -48,5 +48,5 @@ tested arena generators s None =
 
 -- the moves of the word that the text spells, or its first refusal: brackets, dots, the pieces in order of
 -- reading, then names, flips and moves
-abbrev pub word : Arena → List Generator → List ℕ → Result (List MoveHandle) WordError
-word arena generators s = tested arena generators s (bad_bracket 0 0 s)
+abbrev pub reading : Arena → List Generator → List ℕ → Result (List MoveHandle) WordError
+reading arena generators s = tested arena generators s (bad_bracket 0 0 s)

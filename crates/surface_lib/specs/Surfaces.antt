@@ -32,12 +32,16 @@ is_generator_name (c ∷ s) = is_lower c && (nat_le (length s) 15 && list_all is
 
 -- ---- surfaces
 
--- the path of a generator: of the arena, from the base to the base, with fewer than 2^31 moves
+-- a path of the arena from the base to the base
+pub record IsLoop (arena : Arena) (path : MovePath) : Type 0 where
+  pub within : IsPathIn arena path
+  pub start : path.start ≡ 0
+  pub end : path.end ≡ 0
+
+-- a generator of the arena: a loop with fewer than 2^31 moves
 pub record IsGenerator (arena : Arena) (e : String Global × MovePath) : Type 0 where
   pub spelt : is_generator_name (string_bytes e.0) ≡ true
-  pub path : IsPathIn arena e.1
-  pub start : e.1.start ≡ 0
-  pub end : e.1.end ≡ 0
+  pub loop : IsLoop arena e.1
   pub short : length e.1.moves < 2 ^ 31
 
 -- what every call that takes a surface asks of its fields

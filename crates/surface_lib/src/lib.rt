@@ -7,9 +7,13 @@
 //! the value of a word), `Refusals` (the path, or the first refusal in its order) and `Surfaces`.
 #![tactic(auto)]
 
+mod counts;
 mod error;
+mod names;
+mod piece;
 mod power;
 mod surface;
+mod tested;
 
 pub use error::WordError;
 pub use surface::Surface;
