@@ -55,16 +55,16 @@ fn times(power: Power, a: Counts) -> Counts
 {
     let times = u128::from(power.times);
     Counts {
-        names: a.names.saturating_mul(times),
-        flips: a.flips.saturating_mul(times),
-        moves: a.moves.saturating_mul(times),
+        names: times.saturating_mul(a.names),
+        flips: times.saturating_mul(a.flips),
+        moves: times.saturating_mul(a.moves),
     }
 }
 
 /// The counts of a name.
 fn of_name(s: &Surface, named: Option<Named<'_>>) -> Counts
     requires { IfSome named (λ n. IsLoop s.now.atlas n.path.now) }
-    ensures { result ≡ named_if (counted s.now.atlas) (moves_found named) }
+    ensures { result ≡ named_if (counted s.now.atlas) (moves_found named.entry) }
 {
     match named {
         Some(named) => Counts {

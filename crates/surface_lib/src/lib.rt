@@ -10,6 +10,7 @@
 mod counts;
 mod error;
 mod names;
+mod path_of_text;
 mod piece;
 mod power;
 mod surface;

@@ -17,7 +17,7 @@ abbrev pub both : Counts → Counts → Counts
 both a b = record { names = capped (a.names + b.names); flips = capped (a.flips + b.flips); moves = capped (a.moves + b.moves) }
 
 abbrev pub times : Power → Counts → Counts
-times k a = record { names = capped (a.names * k.times); flips = capped (a.flips * k.times); moves = capped (a.moves * k.times) }
+times k a = record { names = capped (k.times * a.names); flips = capped (k.times * a.flips); moves = capped (k.times * a.moves) }
 
 abbrev pub of_name : Arena → List MoveHandle → Counts
 of_name arena moves = record { names = 1; flips = capped (flips_among arena moves); moves = capped (length moves) }
