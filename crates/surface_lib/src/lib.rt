@@ -15,6 +15,8 @@ mod piece;
 mod power;
 mod surface;
 mod tested;
+mod word;
 
 pub use error::WordError;
 pub use surface::Surface;
+pub use word::read_word;
