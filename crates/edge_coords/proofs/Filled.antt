@@ -5,7 +5,8 @@ use Rattle.std.proofs.lemmas.List.{length-set, get_or-take, length-take-le}
 use Rattle.std.proofs.lemmas.List.Edits.{fill_by_more}
 use Rattle.std.proofs.lemmas.List.FromFn.{fill_by_all, get_or-map-range_with_len, length-map-range_with_len}
 use Rattle.edge_coords.specs.Coordinates.{AreSmall}
-use Rattle.edge_coords.specs.declared.coords.TheConstants.{COORDINATE_LIMIT, EDGES}
+use Rattle.ideal_tri.specs.declared.tri.TheConstants.{EDGES}
+use Rattle.edge_coords.specs.declared.coords.TheConstants.{COORDINATE_LIMIT}
 
 -- the array has its places, and those below i hold the values
 pub record IsFilled (f : ℕ → ℕ) (xs : List ℕ) (i : ℕ) : Type 0 where

@@ -4,7 +4,8 @@ use Rattle.std.proofs.lemmas.List.Elements.{All-set}
 use Rattle.std.proofs.lemmas.List.{drop-replicate, length-replicate, length-set, drop-set-lt}
 use Rattle.std.proofs.Math.Seq.{take-append_seam, drop-append_seam, take-set-lt}
 use Rattle.edge_coords.specs.Coordinates.{Coordinates, AreSmall}
-use Rattle.edge_coords.specs.declared.coords.TheConstants.{COORDINATE_LIMIT, EDGES}
+use Rattle.ideal_tri.specs.declared.tri.TheConstants.{EDGES}
+use Rattle.edge_coords.specs.declared.coords.TheConstants.{COORDINATE_LIMIT}
 use Rattle.edge_coords.specs.inside.Again.{count_again}
 use Rattle.edge_coords.specs.inside.LaidOut.{IsLaidOut, spare_numbers}
 

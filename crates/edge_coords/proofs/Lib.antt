@@ -2,7 +2,6 @@ pub mod Triangles
 pub mod Kept
 pub mod Filled
 pub mod Turns
-pub mod Hits
 pub mod MoveSteps
 pub mod Relabelled
 pub mod Along

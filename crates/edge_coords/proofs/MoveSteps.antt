@@ -4,6 +4,7 @@ use Rattle.std.proofs.Common.{◌≡◌, ◌<◌, ℕ, ℤ, pos, List, length, s
 use Rattle.ideal_tri.specs.Labels.{inverse, edge_of}
 use Rattle.ideal_tri.specs.Triangulations.{IsTriangulation, IsLabel, edge_count, next, previous}
 use Rattle.ideal_tri.specs.Vectors.{IsMulticurve}
+use Rattle.ideal_tri.specs.RelabellingLaws.{RelabellingLaws}
 use Rattle.ideal_tri.specs.SurfaceLaws.{TriangleLaws}
 use Rattle.ideal_tri.specs.Relabellings.{image_of, IsRelabelling}
 use Rattle.tri_atlas.specs.Moves.{Move, flip, unflip, relabel, IsFlip, IsMove}
@@ -37,12 +38,7 @@ in_vector : (triples : List (List ℤ)) (w : List ℕ) (x : ℤ) → length w �
     → edge_of x < length w
 in_vector triples w x many l = subst (λ (n : ℕ). edge_of x < n) (sym many) l
 
--- each edge of `target` is the image of one of `before`
-abbrev pub ReachesAll : List (List ℤ) → List (List ℤ) → List ℤ → Type 0
-ReachesAll before target images =
-    (e : ℕ) → e < edge_count target → (d : ℕ) × (d < edge_count before) × (edge_of (image_of images (pos d)) ≡ e)
-
-module _ (laws : VectorLaws) (before target : List (List ℤ)) (w : List ℕ) (sound : IsTriangulation before)
+module _ (laws : VectorLaws) (relabellings : RelabellingLaws) (before target : List (List ℤ)) (w : List ℕ) (sound : IsTriangulation before)
     (other : IsTriangulation target) (multicurve : IsMulticurve before w) (edges : edge_count target ≡ edge_count before) where
   there : (e a b c d : ℤ) → TriangleLaws before → IsFlip before target e a b c d → IsFlipOf w e a b c d
   there e a b c d triangles h =
@@ -71,21 +67,19 @@ module _ (laws : VectorLaws) (before target : List (List ℤ)) (w : List ℕ) (s
         enough = laws.numbers.enough_back target before e a b c d w other h multicurve;
       }
 
-  moves : (images : List ℤ) → ReachesAll before target images → IsRelabelling before target images → IsRelabellingOf w images
-  moves images onto h = record {
+  moves : (images : List ℤ) → IsRelabelling before target images → IsRelabellingOf w images
+  moves images h = record {
     as_many = h.one_per_edge ∙ sym multicurve.one_per_edge;
     as_long = (laws.moves before target (relabel images) w sound other h multicurve).multicurve.one_per_edge ∙ sym many;
     within = λ k low. in_vector target w (image_of images (pos k)) many
         (h.labels k (pos 0) (subst (λ (n : ℕ). k < n) (multicurve.one_per_edge ∙ sym h.one_per_edge) low));
     moved = λ k low. laws.numbers.moved before target images w (pos k) h (subst (λ (n : ℕ). k < n) multicurve.one_per_edge low);
     onto = λ e low.
-        (let (d, within, is) = onto e (subst (λ (n : ℕ). e < n) many low) in
+        (let (d, within, is) = relabellings.onto before target images h e (subst (λ (n : ℕ). e < n) many low) in
         (d, subst (λ (n : ℕ). d < n) (sym multicurve.one_per_edge) within, is));
   }
 
-  pub step_of_move : (m : Move) → TriangleLaws before → TriangleLaws target
-      → ((images : List ℤ) → IsRelabelling before target images → ReachesAll before target images)
-      → IsMove before target m → IsStepOf w m
-  step_of_move (flip e a b c d) here after onto h = there e a b c d here h
-  step_of_move (unflip e a b c d) here after onto h = back e a b c d after h
-  step_of_move (relabel images) here after onto h = moves images (onto images h) h
+  pub step_of_move : (m : Move) → TriangleLaws before → TriangleLaws target → IsMove before target m → IsStepOf w m
+  step_of_move (flip e a b c d) here after h = there e a b c d here h
+  step_of_move (unflip e a b c d) here after h = back e a b c d after h
+  step_of_move (relabel images) here after h = moves images h

@@ -9,7 +9,8 @@ use Rattle.ideal_tri.specs.Relabellings.{image_of}
 use Rattle.tri_atlas.specs.Moves.{relabel}
 use Rattle.tri_atlas.specs.MovedVectors.{vector_after}
 use Rattle.edge_coords.specs.Coordinates.{AreSmall}
-use Rattle.edge_coords.specs.declared.coords.TheConstants.{COORDINATE_LIMIT, EDGES}
+use Rattle.ideal_tri.specs.declared.tri.TheConstants.{EDGES}
+use Rattle.edge_coords.specs.declared.coords.TheConstants.{COORDINATE_LIMIT}
 use Rattle.edge_coords.specs.inside.Steps.{IsRelabellingOf}
 
 -- the edge of the image of edge k

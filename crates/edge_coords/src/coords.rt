@@ -8,12 +8,9 @@ ghost use Rattle.tri_atlas.specs.Arena.{triangulation, IsTriIn};
 ghost use Rattle.edge_coords.specs.Coordinates.{AreCoordinatesIn, AreSmall, total_of};
 ghost use Rattle.edge_coords.specs.Refusals.{IsLeastTooLarge, IsLeastFailing, IsRefusedFor};
 
-use ideal_tri::{Label, Tri};
+use ideal_tri::{EDGES, Label, Tri};
 use std::marker::Model;
 use tri_atlas::{Atlas, TriId};
-
-/// The most edges of a triangulation.
-pub(crate) const EDGES: usize = 48;
 
 /// Each coordinate is below this, 2^126, so that the sum of any three fits.
 pub const COORDINATE_LIMIT: u128 = 1 << 126;
@@ -47,7 +44,7 @@ pub enum CoordsError {
 impl Model for Coords {
     ghost use Rattle.std.specs.Prelude.{◌-◌, ◌++◌, length, take, min};
     ghost use Rattle.edge_coords.specs.Coordinates.{Coordinates};
-    ghost use Rattle.edge_coords.specs.declared.coords.TheConstants.{EDGES};
+    ghost use Rattle.ideal_tri.specs.declared.tri.TheConstants.{EDGES};
     ghost use Rattle.edge_coords.specs.inside.LaidOut.{IsLaidOut, spare_numbers};
     ghost use Rattle.edge_coords.specs.inside.Again.{count_again, numbers_again};
 

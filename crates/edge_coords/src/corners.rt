@@ -12,8 +12,8 @@ ghost use Rattle.tri_atlas.specs.Arena.{triangulation};
 ghost use Rattle.edge_coords.specs.Coordinates.{AreCoordinatesIn, AreSmall};
 ghost use Rattle.edge_coords.specs.PeripheralVertices.{IsLeastPeripheral};
 
-use crate::coords::{COORDINATE_LIMIT, Coords, EDGES, weight};
-use ideal_tri::{Label, Tri, VertexId, corner_laws, drawing_laws, surface_laws, vertex_laws};
+use crate::coords::{COORDINATE_LIMIT, Coords, weight};
+use ideal_tri::{EDGES, Label, Tri, VertexId, corner_laws, drawing_laws, surface_laws, vertex_laws};
 use tri_atlas::Atlas;
 
 impl Coords {

@@ -21,8 +21,8 @@ ghost use Rattle.edge_coords.specs.MovedCoordinates.{moved_by, moved_along, IsIm
 ghost use Rattle.edge_coords.specs.MovedCoordinates.{IsFirstOverflow, IsOverflowAlong};
 ghost use Rattle.edge_coords.specs.inside.Steps.{IsFlipOf, IsRelabellingOf, IsStepOf};
 
-use crate::coords::{COORDINATE_LIMIT, Coords, EDGES, weight};
-use ideal_tri::{Label, surface_laws};
+use crate::coords::{COORDINATE_LIMIT, Coords, weight};
+use ideal_tri::{EDGES, Label, relabelling_laws, surface_laws};
 use tri_atlas::{Atlas, MoveId, Path, Step, atlas_laws, vector_laws};
 
 /// A number of 2^126 or more, that was to stand at an edge.
@@ -219,6 +219,7 @@ fn move_law(atlas: &Atlas, m: MoveId, w: &Coords)
     let _ = atlas.base();
     atlas_laws();
     surface_laws();
+    relabelling_laws();
     vector_laws();
 }
 

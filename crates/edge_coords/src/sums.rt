@@ -7,9 +7,9 @@ ghost use Rattle.tri_atlas.specs.Arena.{Arena, IsArena, triangulation};
 ghost use Rattle.edge_coords.specs.Coordinates.{AreCoordinatesIn, AreSmall};
 ghost use Rattle.edge_coords.specs.Sums.{sums, differences, IsLeastOver, IsPartOf};
 
-use crate::coords::{COORDINATE_LIMIT, Coords, EDGES, first_long, first_odd};
+use crate::coords::{COORDINATE_LIMIT, Coords, first_long, first_odd};
 use crate::moves::Overflow;
-use ideal_tri::{Tri, corner_laws};
+use ideal_tri::{EDGES, Tri, corner_laws};
 use tri_atlas::Atlas;
 
 /// The numbers that would be left are no multicurve's.

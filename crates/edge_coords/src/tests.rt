@@ -6,7 +6,7 @@ ghost use Rattle.edge_coords.specs.Coordinates.{AreCoordinatesIn};
 
 use crate::{Coords, CoordsError, NotMulticurve, Overflow, OverflowAt};
 use flip_move::flip;
-use ideal_tri::{Label, Tri};
+use ideal_tri::{EDGES, Label, Tri};
 use relabel::{Relabelling, push};
 use std::alloc::{AllocError, AllocGlobal, Global};
 use std::process::Abort;
@@ -92,7 +92,7 @@ fn before(step: &Step, x: Label) -> Option<Label> {
 fn renamed(step: &Step, x: Label) -> Label {
     let e = x.edge() as usize;
     match step {
-        Step::Relabel(images) if e < 48 => {
+        Step::Relabel(images) if e < EDGES => {
             let image = images[e];
             if x.get() < 0 { image.inverse() } else { image }
         }

@@ -1,5 +1,5 @@
 -- The files of a shelf in memory, with their counts of faults.
-use Rattle.std.specs.Prelude.{◌≡◌, true, nat_eq, ℕ, List, String}
+use Rattle.std.specs.Prelude.{◌≡◌, ◌≢◌, true, nat_eq, ℕ, List, String}
 use Rattle.std.specs.BTreeMap.{BTreeMap, get_by_text}
 use Rattle.std.specs.List.{list_any}
 use Rattle.std.specs.Option.{option_map, option_map_or}
@@ -17,3 +17,9 @@ held_faults files name = option_map_or (λ h. h.faults) (get_by_text files name)
 -- the call with this number is one of those that fail
 abbrev pub IsListed : ℕ → List ℕ → Type 0
 IsListed call fails = list_any (λ k. nat_eq k call) fails ≡ true
+
+-- a read of a name left the files, and the counts of the other names
+pub record SparesOthers (before : BTreeMap (String Global) Held) (name : List ℕ)
+    (now : BTreeMap (String Global) Held) : Type 0 where
+  pub files : held_files now ≡ held_files before
+  pub others : (other : List ℕ) → other ≢ name → held_faults now other ≡ held_faults before other

@@ -1,11 +1,10 @@
+pub mod Counters
 pub mod Counts
-pub mod Dir
 pub mod Files
 pub mod Finite
-pub mod FiniteMaps
 pub mod Held
-pub mod Streams
+pub mod Reads
 pub mod Sure
 pub mod Taken
 pub mod Whole
-pub mod Words
+pub mod inside

@@ -1,5 +1,6 @@
 -- The forms in memory that never fail: which files the shelf has, and what the sink tells.
-use Rattle.std.specs.Prelude.{ℕ, ◌-◌, List, Option, Some, None, Bool, Vec, String, vec_len, vec_capacity, if◌then◌else◌}
+use Rattle.std.specs.Prelude.{ℕ, ◌-◌, List, Option, Some, None, Bool, Vec, String, vec_len}
+use Rattle.std.specs.Prelude.{vec_capacity, if◌then◌else◌}
 use Rattle.std.specs.BTreeMap.{BTreeMap, get_by_text}
 use Rattle.std.specs.Option.{option_map}
 use Rattle.std.specs.declared.alloc.Global.{Global}

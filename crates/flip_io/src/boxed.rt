@@ -1,10 +1,12 @@
 //! A shelf and a sink in memory, whose calls fail where they are told to.
-ghost use Rattle.std.specs.Prelude.{◌≡◌, ◌≤◌, ◌<◌, ◌-◌, ◌^◌, ◌⊎◌, ◌↔◌, min, ℕ, List, [], length, take, drop, Some, None, false, IsSome, IfOk, IsErr, IsOk, OnOk, OnErr, IsErrOf, vec_capacity};
+ghost use Rattle.std.specs.Prelude.{◌≡◌, ◌≢◌, ◌≤◌, ◌<◌, ◌-◌, ◌^◌, ◌⊎◌, ◌↔◌, min, ℕ, List, []};
+ghost use Rattle.std.specs.Prelude.{length, take, drop, Some, None, false, IsSome, IfOk, IsErr};
+ghost use Rattle.std.specs.Prelude.{IsOk, OnOk, OnErr, IsErrOf, vec_capacity};
 ghost use Rattle.std.specs.Str.{bytes_eq};
-ghost use Rattle.flip_io.specs.Counts.{Rose, raised};
+ghost use Rattle.flip_io.specs.Counts.{SameCounts, raised};
 ghost use Rattle.flip_io.specs.Taken.{Took};
-ghost use Rattle.flip_io.specs.FiniteMaps.{told_map_is_finite};
-ghost use Rattle.flip_io.specs.Held.{IsListed, held_files, held_faults};
+ghost use Rattle.flip_io.specs.inside.FiniteMaps.{told_map_is_finite};
+ghost use Rattle.flip_io.specs.Held.{IsListed, SparesOthers, held_files, held_faults};
 ghost use Rattle.flip_io.specs.Sure.{room_of};
 
 use crate::part::{append, copy_part};
@@ -38,6 +40,8 @@ impl Shelf for BoxShelf {
 
     ghost faults = { λ s name. held_faults s.files name };
 
+    ghost after_read = { λ s name t. SparesOthers s.files name t.files };
+
     ghost finite = { λ s files told. told_map_is_finite (λ h. h.bytes.items) s.files files told };
 
     fn read(&mut self, name: &str, at: u64, buf: &mut [u8]) -> Result<usize, ShelfFault>
@@ -45,8 +49,6 @@ impl Shelf for BoxShelf {
         requires place { at < 2 ^ 32 }
         ensures count { IfOk result (λ n. n ≤ length buf.new) }
         ensures told { held_files self.new.files ≡ held_files self.old.files }
-        ensures later { (other : List ℕ)
-            → held_faults self.old.files other ≤ held_faults self.new.files other }
         ensures bytes { IfOk result (λ n. (file : List ℕ)
             → held_files self.old.files name.now ≡ Some file
             → take n buf.new ≡ take n (drop at file)) }
@@ -55,7 +57,15 @@ impl Shelf for BoxShelf {
         ensures lacks { IsErrOf result ShelfFault.Absent
             ↔ (held_files self.old.files name.now ≡ None) }
         ensures failed { IsErrOf result ShelfFault.Failed
-            → Rose (held_faults self.old.files name.now) (held_faults self.new.files name.now) }
+            → held_faults self.new.files name.now ≡ raised (held_faults self.old.files name.now) }
+        ensures uncounted { OnOk result
+            (SameCounts (held_faults self.old.files) (held_faults self.new.files)) }
+        ensures missed { IsErrOf result ShelfFault.Absent
+            → SameCounts (held_faults self.old.files) (held_faults self.new.files) }
+        ensures others { (other : List ℕ) → other ≢ name.now
+            → held_faults self.new.files other ≡ held_faults self.old.files other }
+        ensures later { (other : List ℕ)
+            → held_faults self.old.files other ≤ held_faults self.new.files other }
 
         // Which calls fail, and how much the others give.
         ensures calls { self.new.calls ≡ raised self.old.calls }
@@ -67,14 +77,6 @@ impl Shelf for BoxShelf {
         ensures most { IfOk result (λ n. (file : List ℕ)
             → held_files self.old.files name.now ≡ Some file
             → n ≡ min (min self.old.most (length buf.new)) (length file - at)) }
-
-        // A failure raises the count of its file by one, and nothing else raises a count.
-        ensures raised { IsErrOf result ShelfFault.Failed
-            → held_faults self.new.files name.now ≡ raised (held_faults self.old.files name.now) }
-        ensures others { (other : List ℕ) → bytes_eq name.now other ≡ false
-            → held_faults self.new.files other ≡ held_faults self.old.files other }
-        ensures unraised { IsOk result → (other : List ℕ)
-            → held_faults self.new.files other ≡ held_faults self.old.files other }
     {
         self.calls = self.calls.saturating_add(1);
         let fails = self.fails.as_slice().contains(&self.calls);
@@ -123,8 +125,9 @@ impl Sink for VecSink {
             Took (Some self.old.bytes.items) (Some self.new.bytes.items) (take n bytes.now)) }
         ensures none { OnErr result
             (Took (Some self.old.bytes.items) (Some self.new.bytes.items) []) }
+        ensures counted { OnErr result (self.new.faults ≡ raised self.old.faults) }
+        ensures uncounted { OnOk result (self.new.faults ≡ self.old.faults) }
         ensures later { self.old.faults ≤ self.new.faults }
-        ensures failed { OnErr result (Rose self.old.faults self.new.faults) }
 
         // Which calls fail, and how much the others take.
         ensures calls { self.new.calls ≡ raised self.old.calls }
@@ -134,11 +137,7 @@ impl Sink for VecSink {
             ↔ (IsListed self.new.calls self.old.fails.items ⊎ (room_of self.old.bytes ≡ 0)) }
         ensures most { IfOk result (λ n.
             n ≡ min (min self.old.most (length bytes.now)) (room_of self.old.bytes)) }
-        ensures capacity { vec_capacity self.old.bytes ≤ vec_capacity self.new.bytes }
-
-        // A failure raises the count by one, and nothing else raises it.
-        ensures counted { OnErr result (self.new.faults ≡ raised self.old.faults) }
-        ensures uncounted { OnOk result (self.new.faults ≡ self.old.faults) }
+        ensures capacity { vec_capacity self.new.bytes ≡ vec_capacity self.old.bytes }
     {
         self.calls = self.calls.saturating_add(1);
         let fails = self.fails.as_slice().contains(&self.calls);

@@ -1,10 +1,11 @@
 //! A shelf over the system's files.
 ghost use Rattle.std.specs.Prelude.{◌≡◌, ◌≢◌, ◌≤◌, ◌↔◌, ℕ, List, None, length, IfOk, OnErr, OnOk};
 ghost use Rattle.std.specs.IoError.{error_kind};
-ghost use Rattle.flip_io.specs.Counts.{raised};
-ghost use Rattle.flip_io.specs.FiniteMaps.{not_none};
-ghost use Rattle.flip_io.specs.Dir.{words_of, read_faults_of};
-ghost use Rattle.flip_io.specs.Words.{is_word, counter_of, count_at, raise_at};
+ghost use Rattle.flip_io.specs.Counts.{SameCounts, raised};
+ghost use Rattle.flip_io.specs.inside.FiniteMaps.{not_none};
+ghost use Rattle.flip_io.specs.inside.Dir.{SparesOthers, count_at, raise_at, read_faults_of};
+ghost use Rattle.flip_io.specs.inside.Dir.{words_of};
+ghost use Rattle.flip_io.specs.Counters.{is_word, counter_of};
 ghost use Rattle.flip_io.specs.declared.dir.Counter.{Counter};
 
 use crate::{Shelf, ShelfFault};
@@ -43,6 +44,7 @@ impl Counters {
     }
 }
 
+/// Whether the word at this place is this name.
 fn is_word(words: &[String], at: usize, name: &str) -> bool
     ensures { result ≡ is_word words.now at name.now }
 {
@@ -52,6 +54,7 @@ fn is_word(words: &[String], at: usize, name: &str) -> bool
     }
 }
 
+/// Which counter a name has.
 fn counter_of(words: &[String], name: &str) -> Counter
     ensures { result ≡ counter_of words.now name.now }
 {
@@ -64,6 +67,7 @@ fn counter_of(words: &[String], name: &str) -> Counter
     }
 }
 
+/// Reads from the place `at` on, counted from 0.
 fn read_at<F: Read + Seek>(file: &mut F, at: u64, buf: &mut [u8]) -> io::Result<usize>
     ensures { IfOk result (λ n. n ≤ length buf.new) }
 {
@@ -82,7 +86,9 @@ fn fault_of(error: &io::Error) -> ShelfFault
     }
 }
 
-/// A folder, a file that can't be read, and want of memory in the system are failures like others.
+/// Reads bytes of the named file. It is opened anew for each piece, since each call names a file
+/// and a place: nothing stays open between calls. A folder, a file that can't be read, and want of
+/// memory in the system are failures like others.
 fn read_named<R: Files>(rt: &R, name: &str, at: u64, buf: &mut [u8]) -> Result<usize, ShelfFault>
     ensures { IfOk result (λ n. n ≤ length buf.new) }
 {
@@ -98,9 +104,10 @@ fn read_named<R: Files>(rt: &R, name: &str, at: u64, buf: &mut [u8]) -> Result<u
 /// The files that the system has, by names relative to the folder that the program runs in. It
 /// tells no content.
 ///
-/// It keeps three counts of faults: one for the name that is word 1 of the command line, one for
-/// the name that is word 3 and not word 1, and one for all other names. Words are counted from 0.
-/// Each failure raises the count of its name, also that of a name that isn't there.
+/// It keeps three counters of faults: one for the name that is word 1 of the command line, one for
+/// the name that is word 3 and not word 1, and one for all other names. Words are counted from 0:
+/// words 1 and 3 are where the program's commands name files. Each failure raises the counter of
+/// its name, also that of a name that isn't there.
 #[derive(Drop)]
 pub struct DirShelf<'a, R: Files> {
     rt: &'a R,
@@ -130,18 +137,13 @@ impl<'a, R: Files> DirShelf<'a, R> {
     /// Reads, and raises the count of the name where that fails.
     fn read_counted(&mut self, name: &str, at: u64, buf: &mut [u8]) -> Result<usize, ShelfFault>
         ensures count { IfOk result (λ n. n ≤ length buf.new) }
-        ensures words { words_of self.new ≡ words_of self.old }
-        ensures later { (other : List ℕ)
-            → read_faults_of self.old other ≤ read_faults_of self.new other }
+        ensures spares { SparesOthers self.old name.now self.new }
         ensures counted { OnErr result
             (read_faults_of self.new name.now ≡ raised (read_faults_of self.old name.now)) }
-        ensures uncounted { OnOk result ((other : List ℕ)
-            → read_faults_of self.new other ≡ read_faults_of self.old other) }
-
-        // The names of the other two counters keep their count.
-        ensures others { (other : List ℕ)
-            → counter_of (words_of self.old) other ≢ counter_of (words_of self.old) name.now
-            → read_faults_of self.new other ≡ read_faults_of self.old other }
+        ensures uncounted { OnOk result
+            (SameCounts (read_faults_of self.old) (read_faults_of self.new)) }
+        ensures later { (other : List ℕ)
+            → read_faults_of self.old other ≤ read_faults_of self.new other }
     {
         match read_named(self.rt, name, at, buf) {
             Ok(n) => Ok(n),
@@ -157,6 +159,8 @@ impl<'a, R: Files> Shelf for DirShelf<'a, R> {
     ghost told = { λ _. None };
 
     ghost faults = { λ s name. read_faults_of s name };
+
+    ghost after_read = { λ s name t. SparesOthers s name t };
 
     ghost finite = { λ s files told. absurd (not_none files told) };
 

@@ -6,15 +6,22 @@
 //! they are told to, `SureShelf` and `SureSink` never), and the forms over the system, `DirShelf`
 //! and `StdSink`, which tell none.
 //!
+//! ```text
+//! let mut shelf = DirShelf::new(&rt, &words);
+//! let bytes = read_all(rt.alloc(), &mut shelf, "sphere3.json", 1_048_576)?;
+//! let mut out = StdSink::new(rt.stdout());
+//! write_all(&mut out, &bytes)?;
+//! ```
+//!
 //! Promised to the layer above: `read_all` gives the whole file and nothing else, or the one
-//! refusal that fits; `write_all` takes all the bytes, or after a fault a prefix of them; and a
-//! fault comes only where the count of faults rose, of the name that was read or of the sink that
-//! was written to. Every loop takes a byte a turn or ends.
+//! refusal that fits; `write_all` takes all the bytes, or after a fault a prefix of them; a fault
+//! raises the count of faults by one, of the name that was read or of the sink that was written to,
+//! and nothing else raises a count. Every loop takes a byte a turn or ends.
 //!
 //! The definitions stand in `specs/`: `Files` and `Finite` (what a shelf has), `Counts` (when a
-//! count rose), `Taken` (what a sink took), `Whole` (what `read_all` answers), and `Held`, `Sure`,
-//! `Dir`, `Words` and `Streams` for the forms. `FiniteMaps` has lemmas that show the law of `Shelf`
-//! for the forms in memory.
+//! count rose), `Reads` (which names were read), `Taken` (what a sink took), `Whole` (what
+//! `read_all` answers), `Held` and `Sure` for the forms in memory, and `Counters` for `DirShelf`.
+//! `specs/inside` has what serves private fields, and lemmas for a law of `Shelf`.
 //!
 //! Trusted: what the system's files and streams hold and do. `DirShelf` and `StdSink` have one test
 //! each.

@@ -1,5 +1,6 @@
 //! Copying bytes into a buffer that is there already, for the forms in memory.
-ghost use Rattle.std.specs.Prelude.{◌≡◌, ◌≤◌, ◌<◌, ◌+◌, ◌-◌, ◌++◌, min, length, take, drop, vec_len, vec_capacity};
+ghost use Rattle.std.specs.Prelude.{◌≡◌, ◌≤◌, ◌<◌, ◌+◌, ◌-◌, ◌++◌, min, length, take, drop};
+ghost use Rattle.std.specs.Prelude.{vec_len, vec_capacity};
 
 /// Copies bytes of a file from the place `at` on, as many as there are and fit, and no more than
 /// `most`.
@@ -17,11 +18,13 @@ pub(crate) fn copy_part(file: &[u8], at: u64, buf: &mut [u8], most: usize) -> us
     n
 }
 
-/// Appends bytes for which the buffer has room, so it takes no memory.
+/// Appends bytes for which the buffer has room. It takes no memory: the capacity stays.
 pub(crate) fn append(buffer: &mut Vec<u8>, bytes: &[u8])
     requires room { vec_len buffer.old + length bytes.now ≤ vec_capacity buffer.old }
     ensures items { buffer.new.items ≡ buffer.old.items ++ bytes.now }
-    ensures capacity { vec_capacity buffer.old ≤ vec_capacity buffer.new }
+    ensures capacity { vec_capacity buffer.new ≡ vec_capacity buffer.old }
 {
-    let _ = buffer.extend_from_slice(bytes);
+    for byte in bytes {
+        buffer.push_reserved(*byte);
+    }
 }

@@ -1,6 +1,7 @@
 //! A place that bytes are written to, in order.
-ghost use Rattle.std.specs.Prelude.{◌≡◌, ◌≤◌, ◌<◌, ℕ, List, [], Option, length, take, IfOk, OnErr, OnOk};
-ghost use Rattle.flip_io.specs.Counts.{Rose};
+ghost use Rattle.std.specs.Prelude.{◌≡◌, ◌≤◌, ◌<◌, ℕ, List, [], Option, length, take, IfOk, OnErr};
+ghost use Rattle.std.specs.Prelude.{OnOk};
+ghost use Rattle.flip_io.specs.Counts.{raised};
 ghost use Rattle.flip_io.specs.Taken.{Took, TookPrefix};
 
 /// A write failed, and took no byte.
@@ -24,17 +25,20 @@ pub trait Sink {
         ensures some { IfOk result (λ n. 0 < n) }
         ensures took { IfOk result (λ n. Took (told self.old) (told self.new) (take n bytes.now)) }
         ensures none { OnErr result (Took (told self.old) (told self.new) []) }
-        ensures later { faults self.old ≤ faults self.new }
-        ensures failed { OnErr result (Rose (faults self.old) (faults self.new)) };
+
+        // A fault raises the count by one, and nothing else raises it. It never falls.
+        ensures counted { OnErr result (faults self.new ≡ raised (faults self.old)) }
+        ensures uncounted { OnOk result (faults self.new ≡ faults self.old) }
+        ensures later { faults self.old ≤ faults self.new };
 }
 
 /// Writes all the bytes, in as many calls as it takes. After a fault the sink has taken a prefix of
-/// them. Takes no memory.
+/// them, and nothing more is tried. Takes no memory.
 pub fn write_all<K: Sink>(sink: &mut K, bytes: &[u8]) -> Result<(), SinkFault>
     ensures all { OnOk result (Took (K.told sink.old) (K.told sink.new) bytes.now) }
     ensures prefix { TookPrefix (K.told sink.old) (K.told sink.new) bytes.now }
-    ensures later { K.faults sink.old ≤ K.faults sink.new }
-    ensures failed { OnErr result (Rose (K.faults sink.old) (K.faults sink.new)) }
+    ensures counted { OnErr result (K.faults sink.new ≡ raised (K.faults sink.old)) }
+    ensures uncounted { OnOk result (K.faults sink.new ≡ K.faults sink.old) }
 {
     let mut done = 0;
     while done < bytes.len() {

@@ -1,8 +1,8 @@
 //! A sink over a standard stream.
 ghost use Rattle.std.specs.Prelude.{◌≡◌, ◌≤◌, ◌<◌, None, ℕ, [], length, take, IfOk, OnErr, OnOk};
 ghost use Rattle.std.specs.Io.KnownBytes.{Appends, Keeps};
-ghost use Rattle.flip_io.specs.Counts.{Rose, raised};
-ghost use Rattle.flip_io.specs.Streams.{stream_of, write_faults_of};
+ghost use Rattle.flip_io.specs.Counts.{raised};
+ghost use Rattle.flip_io.specs.inside.Streams.{stream_of, write_faults_of};
 ghost use Rattle.flip_io.specs.Taken.{Took};
 
 use crate::{Sink, SinkFault};
@@ -37,13 +37,10 @@ impl<W: Write> Sink for StdSink<W> {
         ensures some { IfOk result (λ n. 0 < n) }
         ensures took { IfOk result (λ n. Took None None (take n bytes.now)) }
         ensures none { OnErr result (Took None None []) }
-        ensures later { write_faults_of self.old ≤ write_faults_of self.new }
-        ensures failed { OnErr result (Rose (write_faults_of self.old) (write_faults_of self.new)) }
-
-        // The count is exact.
         ensures counted { OnErr result
             (write_faults_of self.new ≡ raised (write_faults_of self.old)) }
         ensures uncounted { OnOk result (write_faults_of self.new ≡ write_faults_of self.old) }
+        ensures later { write_faults_of self.old ≤ write_faults_of self.new }
 
         // What it takes goes to the stream, and nothing else does.
         ensures passed { IfOk result (λ n. Appends (W.contents (stream_of self.old))

@@ -1,8 +1,9 @@
 //! A shelf and a sink in memory that never fail.
-ghost use Rattle.std.specs.Prelude.{◌≡◌, ◌≤◌, ◌<◌, ◌+◌, ◌-◌, ◌^◌, ◌++◌, ◌||◌, ◌↔◌, min, nat_lt, ℕ, List, length, take, drop, Some, None, IfOk, IsErrOf, vec_capacity, [], OnErr};
-ghost use Rattle.flip_io.specs.Counts.{Rose};
+ghost use Rattle.std.specs.Prelude.{◌≡◌, ◌≤◌, ◌<◌, ◌+◌, ◌-◌, ◌^◌, ◌++◌, ◌||◌, ◌↔◌, min, nat_lt, ℕ};
+ghost use Rattle.std.specs.Prelude.{List, length, take, drop, Some, None, IfOk, IsErrOf};
+ghost use Rattle.std.specs.Prelude.{vec_capacity, [], OnErr};
 ghost use Rattle.flip_io.specs.Files.{Files};
-ghost use Rattle.flip_io.specs.FiniteMaps.{told_map_is_finite};
+ghost use Rattle.flip_io.specs.inside.FiniteMaps.{told_map_is_finite};
 ghost use Rattle.flip_io.specs.Sure.{files_of, told_unless, room_of};
 ghost use Rattle.flip_io.specs.Taken.{Took};
 
@@ -23,13 +24,15 @@ impl Shelf for SureShelf {
 
     ghost faults = { λ s name. 0 };
 
+    ghost after_read = { λ s name t. t ≡ s };
+
     ghost finite = { λ s files told. told_map_is_finite (λ file. file.items) s.files files told };
 
     fn read(&mut self, name: &str, at: u64, buf: &mut [u8]) -> Result<usize, ShelfFault>
         requires room { 0 < length buf.old }
         requires place { at < 2 ^ 32 }
         ensures count { IfOk result (λ n. n ≤ length buf.new) }
-        ensures told { files_of self.new.files ≡ files_of self.old.files }
+        ensures read { self.new ≡ self.old }
         ensures bytes { IfOk result (λ n. (file : List ℕ)
             → files_of self.old.files name.now ≡ Some file
             → take n buf.new ≡ take n (drop at file)) }
@@ -89,7 +92,7 @@ impl Sink for SureSink {
             → self.new.dropped ≡ self.old.dropped }
         ensures added { length bytes.now ≤ room_of self.old.bytes
             → self.new.bytes.items ≡ self.old.bytes.items ++ bytes.now }
-        ensures capacity { vec_capacity self.old.bytes ≤ vec_capacity self.new.bytes }
+        ensures capacity { vec_capacity self.new.bytes ≡ vec_capacity self.old.bytes }
     {
         let room = self.bytes.capacity() - self.bytes.len();
         if bytes.len() <= room {

@@ -123,6 +123,28 @@ fn sure_forms_never_fail(rt: HostRuntime) -> Result<(), Fail> {
 }
 
 #[test]
+fn the_system_has_long_files(rt: HostRuntime) -> Result<(), Fail> {
+    let alloc = rt.alloc();
+    let name = format!(in alloc; "/tmp/flip_io-long-{}", process::id(rt.process()))?;
+    // No two blocks of 4096 bytes are alike, and the last one is short.
+    let mut text = String::new(alloc);
+    for n in 0..3_000 {
+        write!(text, "{n} ")?;
+    }
+    let long = text.as_bytes();
+    fs::write(&rt, &name, long)?;
+    let words = Vec::new(alloc);
+    let mut shelf = DirShelf::new(&rt, words.as_slice());
+    let whole = read_all(alloc, &mut shelf, &name, 13_890);
+    let longer = read_all(alloc, &mut shelf, &name, 13_889);
+    fs::remove_file(&rt, &name)?;
+    assert_eq!(rt; long.len(), 13_890);
+    assert!(rt; matches!(&whole, Ok(bytes) if bytes.as_slice() == long));
+    assert!(rt; matches!(longer, Err(ReadError::TooLong)));
+    Ok(())
+}
+
+#[test]
 fn the_system_has_files(rt: HostRuntime) -> Result<(), Fail> {
     let alloc = rt.alloc();
     let name = format!(in alloc; "/tmp/flip_io-{}", process::id(rt.process()))?;

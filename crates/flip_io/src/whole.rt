@@ -1,7 +1,9 @@
 //! Reading a whole file.
-ghost use Rattle.std.specs.Prelude.{◌≡◌, ◌≤◌, ◌<◌, ◌^◌, ◌↔◌, ℕ, List, Option, Some, None, length, IfOk, IsErrOf};
-ghost use Rattle.flip_io.specs.Counts.{Rose};
+ghost use Rattle.std.specs.Prelude.{◌≡◌, ◌≢◌, ◌≤◌, ◌<◌, ◌^◌, ◌↔◌, ℕ, List, Option, Some, None};
+ghost use Rattle.std.specs.Prelude.{length, IfOk, IsErrOf};
+ghost use Rattle.flip_io.specs.Counts.{SameCounts, raised};
 ghost use Rattle.flip_io.specs.Files.{Files};
+ghost use Rattle.flip_io.specs.Reads.{AfterReads};
 ghost use Rattle.flip_io.specs.Whole.{IsWhole, IsLonger};
 ghost use Rattle.flip_io.specs.declared.whole.ReadError.TheVariants.{Memory};
 
@@ -56,7 +58,7 @@ pub fn read_all<S: Shelf>(
 ) -> Result<Vec<u8>, ReadError>
     requires { limit < 2 ^ 31 }
     ensures told { S.told shelf.new ≡ S.told shelf.old }
-    ensures later { (other : List ℕ) → S.faults shelf.old other ≤ S.faults shelf.new other }
+    ensures reads { AfterReads S.after_read (λ read. read ≡ name.now) shelf.old shelf.new }
 
     // Over a shelf that tells its files.
     ensures whole { (files : Files) → S.told shelf.old ≡ Some files
@@ -70,10 +72,21 @@ pub fn read_all<S: Shelf>(
 
     // Over any shelf.
     ensures within { IfOk result (λ v. length v.items ≤ limit) }
-    ensures absent { S.told shelf.old ≡ None → IsErrOf result ReadError.Absent
-        → Rose (S.faults shelf.old name.now) (S.faults shelf.new name.now) }
+
+    // A failure raises the count of the name by one. So does absence where no files are told.
     ensures failed { IsErrOf result ReadError.Failed
-        → Rose (S.faults shelf.old name.now) (S.faults shelf.new name.now) }
+        → S.faults shelf.new name.now ≡ raised (S.faults shelf.old name.now) }
+    ensures absent { S.told shelf.old ≡ None → IsErrOf result ReadError.Absent
+        → S.faults shelf.new name.now ≡ raised (S.faults shelf.old name.now) }
+
+    // Nothing else raises a count, and none falls.
+    ensures uncounted { (¬ IsErrOf result ReadError.Failed) → (¬ IsErrOf result ReadError.Absent)
+        → SameCounts (S.faults shelf.old) (S.faults shelf.new) }
+    ensures missed { (files : Files) → S.told shelf.old ≡ Some files
+        → IsErrOf result ReadError.Absent → SameCounts (S.faults shelf.old) (S.faults shelf.new) }
+    ensures others { (files : Files) → S.told shelf.old ≡ Some files → (other : List ℕ)
+        → other ≢ name.now → S.faults shelf.new other ≡ S.faults shelf.old other }
+    ensures later { (other : List ℕ) → S.faults shelf.old other ≤ S.faults shelf.new other }
 {
     let mut bytes = Vec::new(alloc);
     let mut buf = [0u8; CHUNK];

@@ -1,11 +1,13 @@
 -- Laws of the line that is printed.
-use Rattle.std.proofs.Common.{◌≡◌, ◌<◌, ◌+◌, ◌++◌, ℕ, List, [], ◌∷◌, ◌≤◌, length, take, map, get_or, refl, sym, ◌∙◌, ap, append_assoc, arith}
+use Rattle.std.proofs.Common.{◌≡◌, ◌<◌, ◌+◌, ◌++◌, ℕ, List, [], ◌∷◌, ◌≤◌, length, take, map, get_or, refl, sym, ◌∙◌, ap}
+use Rattle.std.proofs.Common.{append_assoc, arith}
 use Rattle.std.specs.Fmt.{decimal}
 use Rattle.std.specs.List.{join_with_byte}
 use Rattle.std.proofs.lemmas.List.{nil_from_length, take_more, map-append, length-map, length-take}
 
 -- one piece more
-join_with_byte_push : (c : ℕ) (pieces : List (List ℕ)) (piece : List ℕ) → 0 < length pieces → join_with_byte c (pieces ++ piece ∷ []) ≡ join_with_byte c pieces ++ (c ∷ piece)
+join_with_byte_push : (c : ℕ) (pieces : List (List ℕ)) (piece : List ℕ) → 0 < length pieces
+    → join_with_byte c (pieces ++ piece ∷ []) ≡ join_with_byte c pieces ++ (c ∷ piece)
 join_with_byte_push c [] piece some = absurd (omega arith)
 join_with_byte_push c (p ∷ []) piece some = refl
 join_with_byte_push c (p ∷ q ∷ pieces) piece some =
@@ -16,31 +18,39 @@ join_with_byte_push c (p ∷ q ∷ pieces) piece some =
 abbrev pub spaced : List ℕ → ℕ → List ℕ
 spaced ns k = join_with_byte 32 (map decimal (take k ns))
 
-decimals_more : (ns : List ℕ) (k : ℕ) → k < length ns → map decimal (take (k + 1) ns) ≡ map decimal (take k ns) ++ decimal (get_or ns k 0) ∷ []
-decimals_more ns k inside = ap (map decimal) (take_more ns k 0 inside) ∙ map-append decimal (take k ns) (get_or ns k 0 ∷ [])
+decimals_more : (ns : List ℕ) (k : ℕ) → k < length ns
+    → map decimal (take (k + 1) ns) ≡ map decimal (take k ns) ++ decimal (get_or ns k 0) ∷ []
+decimals_more ns k inside =
+    ap (map decimal) (take_more ns k 0 inside) ∙ map-append decimal (take k ns) (get_or ns k 0 ∷ [])
 
 length-decimals : (ns : List ℕ) (k : ℕ) → k < length ns → length (map decimal (take k ns)) ≡ k
 length-decimals ns k inside = simp (length-map, length-take) (omega arith)
 
-spaced-first : (ns : List ℕ) (k : ℕ) → k < length ns → k ≤ 0 → spaced ns (k + 1) ≡ spaced ns k ++ decimal (get_or ns k 0)
+spaced-first : (ns : List ℕ) (k : ℕ) → k < length ns → k ≤ 0
+    → spaced ns (k + 1) ≡ spaced ns k ++ decimal (get_or ns k 0)
 spaced-first ns k inside first =
     let none = nil_from_length (map decimal (take k ns)) (length-decimals ns k inside ∙ omega arith) in
     ap (join_with_byte 32) (decimals_more ns k inside)
     ∙ ap (λ (z : List (List ℕ)). join_with_byte 32 (z ++ decimal (get_or ns k 0) ∷ [])) none
     ∙ sym (ap (λ (z : List (List ℕ)). join_with_byte 32 z ++ decimal (get_or ns k 0)) none)
 
-spaced-more : (ns : List ℕ) (k : ℕ) → k < length ns → 0 < k → spaced ns (k + 1) ≡ (spaced ns k ++ 32 ∷ []) ++ decimal (get_or ns k 0)
+spaced-more : (ns : List ℕ) (k : ℕ) → k < length ns → 0 < k
+    → spaced ns (k + 1) ≡ (spaced ns k ++ 32 ∷ []) ++ decimal (get_or ns k 0)
 spaced-more ns k inside later =
     ap (join_with_byte 32) (decimals_more ns k inside)
-    ∙ (join_with_byte_push 32 (map decimal (take k ns)) (decimal (get_or ns k 0)) (omega (arith, length-decimals ns k inside))
+    ∙ (join_with_byte_push 32 (map decimal (take k ns)) (decimal (get_or ns k 0))
+    (omega (arith, length-decimals ns k inside))
     ∙ sym (append_assoc (spaced ns k) (32 ∷ []) (decimal (get_or ns k 0))))
 
 -- a line that is written on: the next number, with a space before it unless it is the first
-pub spaced_from_first : (ns : List ℕ) (k : ℕ) (before line : List ℕ) → k < length ns → k ≤ 0 → before ≡ spaced ns k → line ≡ before ++ decimal (get_or ns k 0) → line ≡ spaced ns (k + 1)
+pub spaced_from_first : (ns : List ℕ) (k : ℕ) (before line : List ℕ) → k < length ns → k ≤ 0 → before ≡ spaced ns k
+    → line ≡ before ++ decimal (get_or ns k 0) → line ≡ spaced ns (k + 1)
 spaced_from_first ns k before line inside first so_far written =
     written ∙ ap (λ (z : List ℕ). z ++ decimal (get_or ns k 0)) so_far ∙ sym (spaced-first ns k inside first)
 
-pub spaced_from_more : (ns : List ℕ) (k : ℕ) (before space line : List ℕ) → k < length ns → 0 < k → before ≡ spaced ns k → space ≡ before ++ 32 ∷ [] → line ≡ space ++ decimal (get_or ns k 0) → line ≡ spaced ns (k + 1)
+pub spaced_from_more : (ns : List ℕ) (k : ℕ) (before space line : List ℕ) → k < length ns → 0 < k
+    → before ≡ spaced ns k → space ≡ before ++ 32 ∷ [] → line ≡ space ++ decimal (get_or ns k 0)
+    → line ≡ spaced ns (k + 1)
 spaced_from_more ns k before space line inside later so_far parted written =
     written
     ∙ ap (λ (z : List ℕ). z ++ decimal (get_or ns k 0)) (parted ∙ ap (λ (z : List ℕ). z ++ 32 ∷ []) so_far)

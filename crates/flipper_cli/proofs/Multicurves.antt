@@ -12,5 +12,6 @@ all_more P ts t k inside is before here =
 pub all_from_take : (P : List ℤ → Type 0) (ts : List (List ℤ)) (k : ℕ) → length ts ≤ k → All P (take k ts) → All P ts
 all_from_take P ts k past h = subst (All P) (take_all k ts past) h
 
-pub holds_at : (P : List ℤ → Type 0) (ts : List (List ℤ)) (t : List ℤ) (k : ℕ) → k < length ts → slice_get ts k ≡ Some t → All P ts → P t
+pub holds_at : (P : List ℤ → Type 0) (ts : List (List ℤ)) (t : List ℤ) (k : ℕ) → k < length ts
+    → slice_get ts k ≡ Some t → All P ts → P t
 holds_at P ts t k inside is all = subst P (get_or_from_slice_get ts k t [] is) (All-get_or P ts k [] inside all)

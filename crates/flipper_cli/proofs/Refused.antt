@@ -1,111 +1,54 @@
--- Triples that are refused are no triangulation, and a list that is refused is no relabelling.
-use Rattle.std.proofs.Common.{◌≡◌, ◌+◌, ◌<◌, ◌≤◌, ℕ, ℤ, pos, Bool, true, false, cond, List, [], ◌∷◌, length, take, get_or, refl, sym, ◌∙◌, ap, subst, arith, nat_eq, nat_lt, inl, inr, Option, Some, Result, Ok, Err, String, Global, All}
-use Rattle.std.specs.Result.{IfOk, IfErr, result_ok}
-use Rattle.std.specs.List.{count_by}
-use Rattle.std.specs.Ordering.{int_eq}
-use Rattle.std.proofs.lemmas.Bool.{ne_eqb, cases_lt}
-use Rattle.std.proofs.lemmas.Bool.Decides.{Decides-int_eq, nat_tests}
-use Rattle.std.proofs.lemmas.List.Elements.{All-head, All-tail}
-use Rattle.std.proofs.lemmas.List.Sums.{sum_by-cons, sum_by-take-le, count_by_more_yes}
-use Rattle.ideal_tri.specs.Labels.{edge_of}
-use Rattle.ideal_tri.specs.Triangulations.{labels_of, edge_count, IsLabel, IsTriangulation}
-use Rattle.ideal_tri.specs.Refusals.{IsOfGoodSize, IsRefusedFor}
-use Rattle.ideal_tri.specs.declared.tri.TriError.{TriError}
-use Rattle.ideal_tri.specs.declared.tri.TriError.TheVariants.{NoTriangle, TooManyEdges, LabelRange, LabelTwice, Disconnected}
-use Rattle.flipper_cli.specs.KeptSurface.{generator_of, IsFound}
-use Rattle.flipper_cli.specs.Surfaces.{Generator}
-use Rattle.relabel.specs.Refusals.{IsRefusedFor as IsRefusedAsRelabelling}
+-- What is refused of a tree: triples that are no connected triangulation, lists that are no relabelling, and what holds
+-- of the whole where a part is refused.
+use Rattle.std.proofs.Common.{◌≡◌, ◌∙◌, ℤ, List, sym, ap, subst, Option, Some, Result, Ok, Err, String, Global}
+use Rattle.std.specs.Result.{IsErrAnd}
+use Rattle.ideal_tri.specs.Triangulations.{IsTriangulation, IsConnected}
+use Rattle.ideal_tri.specs.Refusals.{IsOfGoodSize}
 use Rattle.ideal_tri.specs.Relabellings.{IsRelabelling}
-use Rattle.relabel.specs.declared.relabelling.RelabelError.{RelabelError}
-use Rattle.relabel.specs.declared.relabelling.RelabelError.TheVariants.{WrongLength, NotLabel, NotBijective, BreaksTriangle}
-
--- ---- triangulations
-
-abbrev occurrences : List ℤ → ℤ → ℕ
-occurrences xs x = count_by (λ y. int_eq y x) xs
-
--- x stands at a place, beside those before it
-stands_at : (xs : List ℤ) (i : ℕ) (x : ℤ) → i < length xs → get_or xs i x ≡ x → occurrences (take i xs) x + 1 ≤ occurrences xs x
-stands_at xs i x h is =
-    let hit : int_eq (get_or xs i x) x ≡ true = (Decides-int_eq (get_or xs i x) x).1 is in
-    let more : occurrences (take (i + 1) xs) x ≡ occurrences (take i xs) x + 1 = count_by_more_yes (λ y. int_eq y x) xs i x h hit in
-    let all : occurrences (take (i + 1) xs) x ≤ occurrences xs x = sum_by-take-le (λ y. cond (int_eq y x) 1 0) xs (i + 1) in
-    omega arith
-
-one_at_most : (b : Bool) → cond b 1 0 ≤ 1
-one_at_most true = omega arith
-one_at_most false = omega arith
-
-stands_once : (ts : List (List ℤ)) (x : ℤ) → IsTriangulation ts → occurrences (labels_of ts) x ≤ 1
-stands_once ts x t =
-    let e : occurrences (labels_of ts) x ≡ cond (nat_lt (edge_of x) (edge_count ts)) 1 0 = t.labels x in
-    let most : cond (nat_lt (edge_of x) (edge_count ts)) 1 0 ≤ 1 = one_at_most (nat_lt (edge_of x) (edge_count ts)) in
-    omega arith
-
-is_label : (ts : List (List ℤ)) (x : ℤ) → IsTriangulation ts → 1 ≤ occurrences (labels_of ts) x → IsLabel ts x
-is_label ts x t h =
-    let e : occurrences (labels_of ts) x ≡ cond (nat_lt (edge_of x) (edge_count ts)) 1 0 = t.labels x in
-    grind (arith, nat_tests)
-
-pub no_triangulation : (ts : List (List ℤ)) (e : TriError) → IsRefusedFor ts e → edge_count ts < 49 → IsTriangulation ts → ⊥
-no_triangulation ts NoTriangle r few t = let some : 0 < length ts = t.some in omega arith
-no_triangulation ts (TooManyEdges n) r few t = let many : 48 < edge_count ts = r.0 in omega arith
-no_triangulation ts (LabelRange x) r few t =
-    let above : occurrences (take r.1.place (labels_of ts)) x + 1 ≤ occurrences (labels_of ts) x = stands_at (labels_of ts) r.1.place x r.1.within r.1.is in
-    r.1.outside (is_label ts x t (omega arith))
-no_triangulation ts (LabelTwice x) r few t =
-    let f = r.2 in
-    let (k, below, is) = f.again in
-    let first : occurrences (take k (take f.place (labels_of ts))) x + 1 ≤ occurrences (take f.place (labels_of ts)) x =
-    stands_at (take f.place (labels_of ts)) k x below is in
-    let second : occurrences (take f.place (labels_of ts)) x + 1 ≤ occurrences (labels_of ts) x = stands_at (labels_of ts) f.place x f.within f.is in
-    let once : occurrences (labels_of ts) x ≤ 1 = stands_once ts x t in
-    omega arith
-no_triangulation ts (Disconnected k) r few t = r.3.unreached (t.connected k r.3.within)
-
--- ---- relabellings
-
-abbrev hits_of : List ℤ → ℕ → ℕ
-hits_of xs e = count_by (λ x. nat_eq (edge_of x) e) xs
-
-never_hit : (xs : List ℤ) (n e : ℕ) → All (λ x. edge_of x < n) xs → n ≤ e → hits_of xs e ≡ 0
-never_hit [] n e labels h = refl
-never_hit (x ∷ xs) n e labels h =
-    let small : edge_of x < n = All-head (λ y. edge_of y < n) x xs labels in
-    sum_by-cons (λ y. cond (nat_eq (edge_of y) e) 1 0) x xs
-    ∙ ap (λ (b : Bool). cond b 1 0 + hits_of xs e) (ne_eqb (edge_of x) e (λ same. omega arith))
-    ∙ ap (λ (k : ℕ). 0 + k) (never_hit xs n e (All-tail (λ y. edge_of y < n) x xs labels) h)
-
-pub no_relabelling : (from to : List (List ℤ)) (images : List ℤ) (e : RelabelError)
-    → IsRefusedAsRelabelling from to images e → IsRelabelling from to images → ⊥
-no_relabelling from to images (WrongLength n) r h = r.0 h.one_per_edge
-no_relabelling from to images (NotLabel i) r h = r.1.outside (h.labels i (pos 0) r.1.within)
-no_relabelling from to images (NotBijective e) r h =
-    let twice : 1 < hits_of images e = r.2.twice in
-    elim (cases_lt e (edge_count to)) [
-      | inl below ↦ (let once : hits_of images e ≡ 1 = h.bijective e below in omega arith)
-      | inr past ↦ (let none : hits_of images e ≡ 0 = never_hit images (edge_count to) e h.labels (omega arith) in omega arith)
-    ]
-no_relabelling from to images (BreaksTriangle t) r h = r.3.broken (h.triangles t [] r.3.within)
+use Rattle.flipper_cli.specs.Surfaces.{Generator}
+use Rattle.flipper_cli.specs.inside.KeptSurface.{generator_of}
+use Rattle.flipper_cli.specs.inside.Refusals.{IsFound, result_map}
+use Rattle.flipper_cli.specs.declared.surface.SurfaceRefusal.{SurfaceRefusal}
+use Rattle.flipper_cli.specs.declared.surface.SurfaceRefusal.TheVariants.{NotBuilt, NotSurface, Triangles}
+use Rattle.flipper_cli.specs.declared.surface.SurfaceRefusal.TheVariants.{Images, Memory}
 
 -- ---- what a tree tells
 
-pub told_triangulation : (told : Option (List (List ℤ))) (triples read : List (List ℤ)) (r : Result (List (List ℤ)) TriError)
-    → Some triples ≡ told → read ≡ triples
-    → IfOk r (λ t. IsTriangulation read × (t ≡ read)) → IfOk r (λ _. IsOfGoodSize read) → IfErr r (IsRefusedFor read)
-    → IsFound told (λ ts. (edge_count ts < 49) × IsTriangulation ts) (result_ok r)
-told_triangulation told triples read (Ok t) tells is accepted size refused = (
-  cc,
-  subst (λ (z : List (List ℤ)). (edge_count z < 49) × IsTriangulation z) (sym accepted.1) (size.few, accepted.0),
-)
-told_triangulation told triples read (Err e) tells is accepted size refused = λ ts says good.
-    (let same : ts ≡ read = cc in
-    no_triangulation read e refused (subst (λ (z : List (List ℤ)). edge_count z < 49) same good.0) (subst IsTriangulation same good.1))
+abbrev pub IsWhole : List (List ℤ) → Type 0
+IsWhole ts = IsOfGoodSize ts × IsTriangulation ts × IsConnected ts
 
-pub told_no_relabelling : (triples : List (List ℤ)) (told : Option Generator) (name : String Global) (images read : List ℤ) (e : RelabelError)
-    → Some (generator_of name images) ≡ told → read ≡ images → IsRefusedAsRelabelling triples triples read e
-    → (g : Generator) → told ≡ Some g → IsRelabelling triples triples g.images → ⊥
-told_no_relabelling triples told name images read e tells is r g says good =
+pub refused_triangles : (told : Option (List (List ℤ))) (triples read : List (List ℤ)) → Some triples ≡ told
+    → read ≡ triples → ¬ IsWhole read → (ts : List (List ℤ)) → told ≡ Some ts → ¬ IsWhole ts
+refused_triangles told triples read tells is refused ts says good =
+    let same : ts ≡ read = cc in
+    refused (subst IsWhole same good)
+
+pub refused_images : (triples : List (List ℤ)) (told : Option Generator) (name : String Global) (images read : List ℤ)
+    → Some (generator_of name images) ≡ told → read ≡ images → ¬ IsRelabelling triples triples read
+    → (g : Generator) → told ≡ Some g → ¬ IsRelabelling triples triples g.images
+refused_images triples told name images read tells is refused g says good =
     let found : generator_of name images ≡ g = cc in
-    no_relabelling triples triples read e r
-    (subst (IsRelabelling triples triples) (sym (ap (λ (z : Generator). z.images) found) ∙ sym is) good)
+    refused (subst (IsRelabelling triples triples) (sym (ap (λ (z : Generator). z.images) found) ∙ sym is) good)
+
+-- ---- a refusal that is passed on
+
+pub passed : {X : Type 0} (told : Option X) (P : X → Type 0) (r : Result X SurfaceRefusal) (e : SurfaceRefusal)
+    → IsErrAnd r (λ z. z ≡ e) → IsFound told P (Err e) → IsFound told P r
+passed told P (Ok x) e h found = absurd h
+passed told P (Err z) e h found = subst (λ (d : SurfaceRefusal). IsFound told P (Err d)) (sym h) found
+
+pub passed_mapped : {X Y : Type 0} (told : Option X) (P : X → Type 0) (f : Y → X) (r : Result Y SurfaceRefusal)
+    (e : SurfaceRefusal) → IsErrAnd r (λ z. z ≡ e) → IsFound told P (Err e) → IsFound told P (result_map f r)
+passed_mapped told P f (Ok x) e h found = absurd h
+passed_mapped told P f (Err z) e h found = subst (λ (d : SurfaceRefusal). IsFound told P (Err d)) (sym h) found
+
+-- where a part is refused, so is the whole
+pub part_refused : {X Y : Type 0} (part : Option X) (P : X → Type 0) (whole : Option Y) (Q : Y → Type 0)
+    (e : SurfaceRefusal)
+    → (((x : X) → part ≡ Some x → ¬ P x) → (y : Y) → whole ≡ Some y → ¬ Q y)
+    → IsFound part P (Err e) → IsFound whole Q (Err e)
+part_refused part P whole Q NotBuilt so found = found
+part_refused part P whole Q NotSurface so found = so found
+part_refused part P whole Q (Triangles e) so found = so found
+part_refused part P whole Q (Images e) so found = so found
+part_refused part P whole Q Memory so found = tt

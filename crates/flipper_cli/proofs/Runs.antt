@@ -1,18 +1,20 @@
 -- What a run answers, from what the work found and how it was written.
-use Rattle.std.proofs.Common.{◌≡◌, ◌⊎◌, inl, inr, ℕ, List, [], Option, Some, None, Result, Ok, Err, Vec, String, IfOk, IsErrOf, refl, sym, ap, subst, ◌∙◌}
+use Rattle.std.proofs.Common.{◌≡◌, ◌⊎◌, inl, inr, ℕ, List, [], Option, Result, Ok, Err, Vec, String, IfOk}
+use Rattle.std.proofs.Common.{IsErrOf, refl, sym, ap, ◌∙◌, arith}
 use Rattle.std.specs.declared.alloc.Global.{Global}
-use Rattle.flip_io.specs.Counts.{Rose}
+use Rattle.flip_io.specs.Counts.{Rose, raised}
 use Rattle.flip_io.specs.Files.{Files}
 use Rattle.flip_io.specs.Taken.{Took}
 use Rattle.flip_io.specs.declared.shelf.ShelfFault.TheVariants.{Absent as FileAbsent, Failed as ReadFailed}
 use Rattle.flipper_cli.specs.Answers.{Report, refused, status_of}
-use Rattle.flipper_cli.specs.Command.{Command, command, image, IsReadBy}
-use Rattle.flipper_cli.specs.Report.{IsFileReport, IsReport}
-use Rattle.flipper_cli.specs.Run.{IsAnswer, IsLacking, IsQuiet, IsReported, IsWritten, ReadRose, shown}
-use Rattle.flipper_cli.specs.declared.report.Status.{Status}
-use Rattle.flipper_cli.specs.declared.report.Status.TheVariants.{Done, ShelfFault, SinkFault, Memory as NoMemory}
-use Rattle.flipper_cli.specs.declared.report.Refusal.{Refusal}
-use Rattle.flipper_cli.specs.declared.report.Refusal.TheVariants.{Usage, Absent, Failed, SurfaceNotBuilt, SurfaceRefused, WordNotBuilt, WordRefused, CoordinatesRefused, Memory}
+use Rattle.flipper_cli.specs.Run.{IsAnswer, IsQuiet, IsReported, IsWritten, ReadRaised, SinkRaised}
+use Rattle.flipper_cli.specs.Run.{shown}
+use Rattle.flipper_cli.specs.declared.answers.Status.{Status}
+use Rattle.flipper_cli.specs.declared.answers.Status.TheVariants.{Done, ShelfFault, SinkFault, Memory as NoMemory}
+use Rattle.flipper_cli.specs.declared.answers.Refusal.{Refusal}
+use Rattle.flipper_cli.specs.declared.answers.Refusal.TheVariants.{Usage, Absent, Failed, SurfaceNotBuilt}
+use Rattle.flipper_cli.specs.declared.answers.Refusal.TheVariants.{SurfaceRefused, WordNotBuilt, WordRefused}
+use Rattle.flipper_cli.specs.declared.answers.Refusal.TheVariants.{CoordinatesRefused, Memory}
 
 -- ---- refusals by their status
 
@@ -45,45 +47,41 @@ failed_by_report (Err r) h = ap (λ (e : Refusal). Err e) (failed_by_status r (a
 
 -- ---- the answers
 
+-- a count that was raised rose
+rose : (before now : ℕ) → now ≡ raised before → Rose before now
+rose before now once = omega arith
+
 -- where nothing failed the report is written whole, or memory was short
 pub reported : (words : List (String Global)) (files : Files) (made : Result (Vec ℕ Global) Refusal) (status : Status)
     (o o' e e' : Option (List ℕ)) (reads reads' : List ℕ → ℕ) (fo fo' fe fe' : ℕ)
-    → IsAnswer words files (shown made) → IsWritten (shown made) status o o' e e' → IsQuiet words reads reads' fo fo' fe fe'
-    → (IsErrOf made Failed → ReadRose words reads reads') → (status ≡ SinkFault → Rose fo fo' ⊎ Rose fe fe')
+    → IsAnswer words files (shown made) → IsWritten (shown made) status o o' e e'
+    → IsQuiet words reads reads' fo fo' fe fe' → (IsErrOf made Failed → ReadRaised words reads reads')
+    → (status ≡ SinkFault → SinkRaised fo fo' fe fe')
     → IsReported words files status o o' e e' ⊎ (status ≡ NoMemory)
 reported words files made status o o' e e' reads reads' fo fo' fe fe' (inl fits) (inl w) quiet failed sinks =
     inl (record { made = shown made; fits = fits; answered = w.0; out_took = w.1; err_took = w.2 })
 reported words files made status o o' e e' reads reads' fo fo' fe fe' (inr (inl is)) (inl w) quiet failed sinks =
-    absurd (quiet.shelf (failed (failed_by_report made is)))
+    let raised = failed (failed_by_report made is) in
+    absurd (quiet.shelf raised.name raised.read (rose _ _ raised.once))
 reported words files made status o o' e e' reads reads' fo fo' fe fe' (inr (inr is)) (inl w) quiet failed sinks =
     inr (w.0 ∙ ap (λ (r : Report). r.status) is)
 reported words files made status o o' e e' reads reads' fo fo' fe fe' fits (inr w) quiet failed sinks =
     absurd (no_sink (sinks w.0))
   where
-    no_sink : Rose fo fo' ⊎ Rose fe fe' → ⊥
-    no_sink (inl rose) = quiet.output rose
-    no_sink (inr rose) = quiet.errors rose
+    no_sink : SinkRaised fo fo' fe fe' → ⊥
+    no_sink (inl r) = quiet.output (rose fo fo' r.0)
+    no_sink (inr r) = quiet.errors (rose fe fe' r.1)
 
--- over files that lack a name that the words read, the report is that it is absent
-absent_report : (o : Option Command) (files : Files) (name : List ℕ) (r : Report) → IsReadBy o name → files name ≡ None
-    → IsReport o files r → r ≡ refused Absent
-absent_report None files name r reads lacks report = absurd reads
-absent_report (Some (image file word coordinates)) files name r reads lacks report =
-    let On : Option (List ℕ) → Type 0 = λ found. IsFileReport found word coordinates r in
-    subst On (ap files (sym reads) ∙ lacks) report
-
-pub lacking : (words : List (String Global)) (files : Files) (made : Result (Vec ℕ Global) Refusal) (status : Status)
-    (o o' e e' : Option (List ℕ)) → IsAnswer words files (shown made) → IsWritten (shown made) status o o' e e'
-    → IsLacking words files
-    → (status ≡ ShelfFault FileAbsent) ⊎ ((status ≡ ShelfFault ReadFailed) ⊎ ((status ≡ SinkFault) ⊎ (status ≡ NoMemory)))
-lacking words files made status o o' e e' (inl fits) (inl w) lack =
-    inl (w.0 ∙ ap (λ (r : Report). r.status) (absent_report (command words) files lack.name (shown made) lack.read lack.lacks fits))
-lacking words files made status o o' e e' (inr (inl is)) (inl w) lack = inr (inl (w.0 ∙ ap (λ (r : Report). r.status) is))
-lacking words files made status o o' e e' (inr (inr is)) (inl w) lack = inr (inr (inr (w.0 ∙ ap (λ (r : Report). r.status) is)))
-lacking words files made status o o' e e' fits (inr w) lack = inr (inr (inl w.0))
+-- an absent file is answered as such, unless a write failed
+pub lacking : (made : Result (Vec ℕ Global) Refusal) (status : Status) (o o' e e' : Option (List ℕ))
+    → IsErrOf made Absent → IsWritten (shown made) status o o' e e'
+    → (status ≡ ShelfFault FileAbsent) ⊎ (status ≡ SinkFault)
+lacking made status o o' e e' is (inl w) = inl (w.0 ∙ ap (λ (r : Result (Vec ℕ Global) Refusal). (shown r).status) is)
+lacking made status o o' e e' is (inr w) = inr w.0
 
 -- with the status of success the output took the bytes that were made
-pub taken : (Means : List ℕ → Type 0) (made : Result (Vec ℕ Global) Refusal) (status : Status) (o o' e e' : Option (List ℕ))
+pub taken : (Means : List ℕ → Type 0) (made : Result (Vec ℕ Global) Refusal) (status : Status)
+    (o o' e e' : Option (List ℕ))
     → IfOk made (λ bytes. Means bytes.items) → IsWritten (shown made) status o o' e e' → status ≡ Done
     → (printed : List ℕ) × Took o o' printed × Means printed
 taken Means (Ok bytes) status o o' e e' means (inl w) done = (bytes.items, w.1, means)

@@ -1,10 +1,16 @@
 -- What the program answers: its status, and the bytes on the output and on the error stream.
 use Rattle.std.specs.Prelude.{ℕ, List, [], codes}
-use Rattle.flip_io.specs.declared.shelf.ShelfFault.TheVariants.{Absent as FileAbsent, Failed as ReadFailed}
-use Rattle.flipper_cli.specs.declared.report.Status.{Status}
-use Rattle.flipper_cli.specs.declared.report.Status.TheVariants.{Done, InputRefused, WordsRefused, ShelfFault, SinkFault, Memory as NoMemory}
-use Rattle.flipper_cli.specs.declared.report.Refusal.{Refusal}
-use Rattle.flipper_cli.specs.declared.report.Refusal.TheVariants.{Usage, Absent, Failed, SurfaceNotBuilt, SurfaceRefused, WordNotBuilt, WordRefused, CoordinatesRefused, Memory}
+use Rattle.flip_io.specs.declared.shelf.ShelfFault.TheVariants.{Absent as FileAbsent}
+use Rattle.flip_io.specs.declared.shelf.ShelfFault.TheVariants.{Failed as ReadFailed}
+use Rattle.flipper_cli.specs.declared.answers.Status.{Status}
+use Rattle.flipper_cli.specs.declared.answers.Status.TheVariants.{Done, InputRefused, WordsRefused}
+use Rattle.flipper_cli.specs.declared.answers.Status.TheVariants.{ShelfFault, SinkFault}
+use Rattle.flipper_cli.specs.declared.answers.Status.TheVariants.{Memory as NoMemory}
+use Rattle.flipper_cli.specs.declared.answers.Refusal.{Refusal}
+use Rattle.flipper_cli.specs.declared.answers.Refusal.TheVariants.{Usage, Absent, Failed}
+use Rattle.flipper_cli.specs.declared.answers.Refusal.TheVariants.{SurfaceNotBuilt, SurfaceRefused}
+use Rattle.flipper_cli.specs.declared.answers.Refusal.TheVariants.{WordNotBuilt, WordRefused}
+use Rattle.flipper_cli.specs.declared.answers.Refusal.TheVariants.{CoordinatesRefused, Memory}
 
 -- the exit status
 abbrev pub number_of : Status → ℕ

@@ -1,5 +1,6 @@
 -- The words of the command line, and the names that a command reads.
-use Rattle.std.specs.Prelude.{◌≡◌, ◌&&◌, ◌==◌, ℕ, List, [], ◌∷◌, Option, Some, None, Bool, true, not, String, string_bytes, codes, if◌then◌else◌}
+use Rattle.std.specs.Prelude.{◌≡◌, ◌&&◌, ◌==◌, ℕ, List, [], ◌∷◌, Option, Some, None, Bool, true}
+use Rattle.std.specs.Prelude.{not, String, string_bytes, codes, if◌then◌else◌}
 use Rattle.std.specs.Str.{bytes_eq}
 use Rattle.std.specs.declared.alloc.Global.{Global}
 
@@ -19,7 +20,9 @@ is_file (c ∷ text) = not (c == 45) && not (c == 64)
 
 abbrev pub image_command : List ℕ → List ℕ → List ℕ → Option Command
 image_command file word coordinates =
-    if is_file file && (is_argument word && is_argument coordinates) then Some (image file word coordinates) else None
+    if is_file file && (is_argument word && is_argument coordinates)
+    then Some (image file word coordinates)
+    else None
 
 -- the command that the words fit: `image FILE WORD COORDS`
 abbrev pub command : List (String Global) → Option Command

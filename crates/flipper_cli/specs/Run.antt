@@ -1,18 +1,18 @@
--- What a run promises: the answer to the words, the causes of the answers that are no part of the report, what the sinks
--- then hold, and the headline over what was printed.
+-- What a run promises: the answer to the words, the causes of the answers that are no part of the
+-- report, what the sinks then hold, and the headline over what was printed.
 use Rattle.std.specs.Prelude.{◌≡◌, ◌⊎◌, ℕ, List, Option, Some, None, Result, Ok, Err, Vec, String}
 use Rattle.std.specs.declared.alloc.Global.{Global}
-use Rattle.flip_io.specs.Counts.{Rose}
+use Rattle.flip_io.specs.Counts.{Rose, raised}
 use Rattle.flip_io.specs.Files.{Files}
 use Rattle.flip_io.specs.Taken.{Took, TookPrefix}
 use Rattle.flipper_cli.specs.Answers.{Report, printed, refused}
 use Rattle.flipper_cli.specs.Command.{command, IsReadBy}
 use Rattle.flipper_cli.specs.Headline.{IsHeadline}
 use Rattle.flipper_cli.specs.Report.{IsReport}
-use Rattle.flipper_cli.specs.declared.report.Status.{Status}
-use Rattle.flipper_cli.specs.declared.report.Status.TheVariants.{SinkFault}
-use Rattle.flipper_cli.specs.declared.report.Refusal.{Refusal}
-use Rattle.flipper_cli.specs.declared.report.Refusal.TheVariants.{Failed, Memory}
+use Rattle.flipper_cli.specs.declared.answers.Status.{Status}
+use Rattle.flipper_cli.specs.declared.answers.Status.TheVariants.{ShelfFault, SinkFault}
+use Rattle.flipper_cli.specs.declared.answers.Refusal.{Refusal}
+use Rattle.flipper_cli.specs.declared.answers.Refusal.TheVariants.{Failed, Memory}
 
 -- ---- the answer
 
@@ -23,19 +23,27 @@ shown (Err r) = refused r
 
 -- these are the files that the shelf tells, or the words read none
 abbrev pub IsOver : Option Files → List (String Global) → Files → Type 0
-IsOver told words files = (told ≡ Some files) ⊎ ((name : List ℕ) → IsReadBy (command words) name → ⊥)
+IsOver told words files =
+    (told ≡ Some files) ⊎ ((name : List ℕ) → ¬ IsReadBy (command words) name)
 
--- the report of the words over the files, or one of the two that tell of a failed read and of want of memory
+-- the report of the words over the files, or one of the two that tell of a failed read and of want
+-- of memory
 abbrev pub IsAnswer : List (String Global) → Files → Report → Type 0
-IsAnswer words files r = IsReport (command words) files r ⊎ ((r ≡ refused Failed) ⊎ (r ≡ refused Memory))
+IsAnswer words files r =
+    IsReport (command words) files r ⊎ ((r ≡ refused Failed) ⊎ (r ≡ refused Memory))
 
 -- ---- the causes
 
--- the count of a name that the words read rose
-pub record ReadRose (words : List (String Global)) (before now : List ℕ → ℕ) : Type 0 where
+-- a read of a name that the words read failed: its count was raised by one
+pub record ReadRaised (words : List (String Global)) (before now : List ℕ → ℕ) : Type 0 where
   pub name : List ℕ
   pub read : IsReadBy (command words) name
-  pub rose : Rose (before name) (now name)
+  pub once : now name ≡ raised (before name)
+
+-- a write failed: the count of one sink was raised by one, and that of the other stayed
+abbrev pub SinkRaised : (out out_now err err_now : ℕ) → Type 0
+SinkRaised out out_now err err_now =
+    ((out_now ≡ raised out) × (err_now ≡ err)) ⊎ ((out_now ≡ out) × (err_now ≡ raised err))
 
 -- the files lack a name that the words read
 pub record IsLacking (words : List (String Global)) (files : Files) : Type 0 where
@@ -43,27 +51,37 @@ pub record IsLacking (words : List (String Global)) (files : Files) : Type 0 whe
   pub read : IsReadBy (command words) name
   pub lacks : files name ≡ None
 
+-- the status tells of no read that failed and of no absent file, and no failed write hides one
+abbrev pub TellsNoFault : Status → Type 0
+TellsNoFault (ShelfFault _) = ⊥
+TellsNoFault SinkFault = ⊥
+TellsNoFault _ = Unit {0}
+
 -- no count rose: of the names that the words read, and of the two sinks
-pub record IsQuiet (words : List (String Global)) (reads reads_now : List ℕ → ℕ) (out out_now err err_now : ℕ) : Type 0 where
-  pub shelf : ReadRose words reads reads_now → ⊥
-  pub output : Rose out out_now → ⊥
-  pub errors : Rose err err_now → ⊥
+pub record IsQuiet (words : List (String Global)) (reads reads_now : List ℕ → ℕ)
+    (out out_now err err_now : ℕ) : Type 0 where
+  pub shelf : (name : List ℕ) → IsReadBy (command words) name → ¬ Rose (reads name) (reads_now name)
+  pub output : ¬ Rose out out_now
+  pub errors : ¬ Rose err err_now
 
 -- ---- the sinks
 
 -- the sinks took the report's bytes; or a write failed, and they took the first of them
 abbrev pub IsWritten : Report → Status → (out out_now err err_now : Option (List ℕ)) → Type 0
-IsWritten r status out out_now err err_now = ((status ≡ r.status) × Took out out_now r.out × Took err err_now r.err)
+IsWritten r status out out_now err err_now =
+    ((status ≡ r.status) × Took out out_now r.out × Took err err_now r.err)
     ⊎ ((status ≡ SinkFault) × TookPrefix out out_now r.out × TookPrefix err err_now r.err)
 
 -- the answer to these words over these files was written
-pub record IsRun (words : List (String Global)) (files : Files) (status : Status) (out out_now err err_now : Option (List ℕ)) : Type 0 where
+pub record IsRun (words : List (String Global)) (files : Files) (status : Status)
+    (out out_now err err_now : Option (List ℕ)) : Type 0 where
   pub made : Report
   pub fits : IsAnswer words files made
   pub written : IsWritten made status out out_now err err_now
 
 -- the report of these words over these files was written whole, and its status answered
-pub record IsReported (words : List (String Global)) (files : Files) (status : Status) (out out_now err err_now : Option (List ℕ)) : Type 0 where
+pub record IsReported (words : List (String Global)) (files : Files) (status : Status)
+    (out out_now err err_now : Option (List ℕ)) : Type 0 where
   pub made : Report
   pub fits : IsReport (command words) files made
   pub answered : status ≡ made.status
@@ -73,7 +91,8 @@ pub record IsReported (words : List (String Global)) (files : Files) (status : S
 -- ---- the headline
 
 -- the output took bytes of which the headline is true
-pub record PrintsHeadline (words : List (String Global)) (files : Files) (out out_now : Option (List ℕ)) : Type 0 where
+pub record PrintsHeadline (words : List (String Global)) (files : Files)
+    (out out_now : Option (List ℕ)) : Type 0 where
   pub printed : List ℕ
   pub taken : Took out out_now printed
   pub true_of : IsHeadline (command words) files printed

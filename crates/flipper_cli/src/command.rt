@@ -1,7 +1,7 @@
 //! The words of the command line.
 ghost use Rattle.std.specs.Prelude.{◌≡◌, MatchOption, Some, None};
 ghost use Rattle.flipper_cli.specs.Command.{command, image_command, is_argument, is_file};
-ghost use Rattle.flipper_cli.specs.Seen.{seen};
+ghost use Rattle.flipper_cli.specs.inside.Seen.{seen};
 
 /// What the program is asked for.
 #[derive(Clone, Copy)]
@@ -15,7 +15,8 @@ pub(crate) enum Command<'a> {
 
 /// The command that the words fit: `image FILE WORD COORDS`.
 pub(crate) fn command_of(words: &[String]) -> Option<Command<'_>>
-    ensures { MatchOption result (command words.now ≡ None) (λ c. command words.now ≡ Some (seen c)) }
+    ensures { MatchOption result (command words.now ≡ None)
+        (λ c. command words.now ≡ Some (seen c)) }
 {
     match words {
         [name, file, word, coordinates] if name.as_str() == "image" => {
@@ -25,7 +26,8 @@ pub(crate) fn command_of(words: &[String]) -> Option<Command<'_>>
     }
 }
 
-/// The command `image` with these words behind it, if none of them could be an option or a list of files.
+/// The command `image` with these words behind it, if none of them could be an option or a list of
+/// files.
 fn image_command<'a>(file: &'a str, word: &'a str, coordinates: &'a str) -> Option<Command<'a>>
     ensures { MatchOption result (image_command file.now word.now coordinates.now ≡ None)
         (λ c. image_command file.now word.now coordinates.now ≡ Some (seen c)) }

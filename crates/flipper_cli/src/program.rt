@@ -1,24 +1,31 @@
 //! A run of the program.
 ghost use Rattle.std.specs.Prelude.{◌≡◌, ◌⊎◌, ◌≤◌, ℕ, List, [], Option, Some, None, Result, Vec};
 ghost use Rattle.std.specs.declared.alloc.Global.{Global};
-ghost use Rattle.flip_io.specs.Counts.{Rose};
+ghost use Rattle.flip_io.specs.Counts.{SameCounts};
 ghost use Rattle.flip_io.specs.Files.{Files};
+ghost use Rattle.flip_io.specs.Reads.{AfterReads};
 ghost use Rattle.flip_io.specs.Taken.{Took};
 ghost use Rattle.flip_io.specs.declared.shelf.ShelfFault.TheVariants.{Absent, Failed};
-ghost use Rattle.flipper_cli.specs.Command.{command};
-ghost use Rattle.flipper_cli.specs.Run.{IsLacking, IsOver, IsQuiet, IsReported, IsRun, IsWritten, PrintsHeadline, ReadRose, shown};
-ghost use Rattle.flipper_cli.specs.declared.report.Refusal.{Refusal};
+ghost use Rattle.flipper_cli.specs.Command.{IsReadBy, command};
+ghost use Rattle.flipper_cli.specs.Run.{IsLacking, IsOver, IsQuiet, IsReported, IsRun, IsWritten};
+ghost use Rattle.flipper_cli.specs.Run.{PrintsHeadline, ReadRaised, SinkRaised, TellsNoFault};
+ghost use Rattle.flipper_cli.specs.Run.{shown};
+ghost use Rattle.flipper_cli.specs.declared.answers.Refusal.{Refusal};
 
-use crate::report::{Refusal, Status};
+use crate::answers::{Refusal, Status};
 use crate::work::work;
 use flip_io::{Shelf, ShelfFault, Sink, write_all};
 use std::alloc::Global;
 
-/// Writes what the work found: its bytes to the output, or the line of a refusal to the error stream.
+/// Writes what the work found: its bytes to the output, or the line of a refusal to the error
+/// stream.
 fn deliver<O: Sink, E: Sink>(made: Result<Vec<u8>, Refusal>, out: &mut O, err: &mut E) -> Status
-    ensures written { IsWritten (shown made) result (O.told out.old) (O.told out.new) (E.told err.old) (E.told err.new) }
-    ensures later { (O.faults out.old ≤ O.faults out.new) × (E.faults err.old ≤ E.faults err.new) }
-    ensures sinks { result ≡ Status.SinkFault → Rose (O.faults out.old) (O.faults out.new) ⊎ Rose (E.faults err.old) (E.faults err.new) }
+    ensures written { IsWritten (shown made) result
+        (O.told out.old) (O.told out.new) (E.told err.old) (E.told err.new) }
+    ensures sinks { result ≡ Status.SinkFault
+        → SinkRaised (O.faults out.old) (O.faults out.new) (E.faults err.old) (E.faults err.new) }
+    ensures uncounted { ¬ (result ≡ Status.SinkFault)
+        → (O.faults out.new ≡ O.faults out.old) × (E.faults err.new ≡ E.faults err.old) }
 {
     match made {
         Ok(bytes) => {
@@ -36,8 +43,9 @@ fn deliver<O: Sink, E: Sink>(made: Result<Vec<u8>, Refusal>, out: &mut O, err: &
     }
 }
 
-/// Runs the command that the words name: reads its files from the shelf, and writes what it prints to the output,
-/// or one line to the error stream. A write that fails takes the place of any other status.
+/// Runs the command that the words name: reads its files from the shelf, and writes what it prints
+/// to the output, or one line to the error stream. A write that fails takes the place of any other
+/// status.
 pub fn run<S: Shelf, O: Sink, E: Sink>(
     alloc: Global,
     words: &[String],
@@ -45,52 +53,77 @@ pub fn run<S: Shelf, O: Sink, E: Sink>(
     out: &mut O,
     err: &mut E,
 ) -> Status
-    // THE REPORT. The report of the words over the files that the shelf tells is written, or the line of a failed read
-    // or of want of memory; where a write failed, the first bytes of it.
+    // THE REPORT. The report of the words over the files that the shelf tells is written, or the
+    // line of a failed read or of want of memory; where a write failed, the first bytes of it.
     ensures run { (files : Files) → IsOver (S.told shelf.old) words.now files
-        → IsRun words.now files result (O.told out.old) (O.told out.new) (E.told err.old) (E.told err.new) }
+        → IsRun words.now files result
+        (O.told out.old) (O.told out.new) (E.told err.old) (E.told err.new) }
 
-    // Over any shelf it is bytes on the output with the status of success, or the line of a refusal with its status.
+    // Over any shelf it is bytes on the output with the status of success, or the line of a refusal
+    // with its status.
     ensures written { (made : Result (Vec ℕ Global) Refusal)
-        × IsWritten (shown made) result (O.told out.old) (O.told out.new) (E.told err.old) (E.told err.new) }
+        × IsWritten (shown made) result
+        (O.told out.old) (O.told out.new) (E.told err.old) (E.told err.new) }
 
     // With any other status than that of success the output took nothing, unless a write failed.
-    ensures silent { (result ≡ Status.Done → ⊥) → (result ≡ Status.SinkFault → ⊥) → Took (O.told out.old) (O.told out.new) [] }
+    ensures silent { ¬ (result ≡ Status.Done) → ¬ (result ≡ Status.SinkFault)
+        → Took (O.told out.old) (O.told out.new) [] }
 
-    // COMPLETENESS. Where nothing failed, it is the report of the words, written whole, if there was memory.
+    // COMPLETENESS. Where nothing failed, it is the report of the words, written whole, if there
+    // was memory.
     ensures quiet { (files : Files) → IsOver (S.told shelf.old) words.now files
         → IsQuiet words.now (S.faults shelf.old) (S.faults shelf.new)
         (O.faults out.old) (O.faults out.new) (E.faults err.old) (E.faults err.new)
-        → IsReported words.now files result (O.told out.old) (O.told out.new) (E.told err.old) (E.told err.new)
+        → IsReported words.now files result
+        (O.told out.old) (O.told out.new) (E.told err.old) (E.told err.new)
         ⊎ (result ≡ Status.Memory) }
 
-    // THE CAUSES. A failed read is answered only where the count of a name that the words read rose.
+    // THE CAUSES. A failed read is answered only where the count of a name that the words read
+    // rose.
     ensures failed { result ≡ Status.ShelfFault ShelfFault.Failed
-        → ReadRose words.now (S.faults shelf.old) (S.faults shelf.new) }
+        → ReadRaised words.now (S.faults shelf.old) (S.faults shelf.new) }
 
-    // A file is absent only where the files lack it, or where they aren't told and the count of its name rose.
-    ensures lacks { (files : Files) → S.told shelf.old ≡ Some files → result ≡ Status.ShelfFault ShelfFault.Absent
-        → IsLacking words.now files }
+    // A file is absent only where the files lack it, or where they aren't told and the count of its
+    // name rose.
+    ensures lacks { (files : Files) → S.told shelf.old ≡ Some files
+        → result ≡ Status.ShelfFault ShelfFault.Absent → IsLacking words.now files }
     ensures absent { S.told shelf.old ≡ None → result ≡ Status.ShelfFault ShelfFault.Absent
-        → ReadRose words.now (S.faults shelf.old) (S.faults shelf.new) }
+        → ReadRaised words.now (S.faults shelf.old) (S.faults shelf.new) }
 
-    // Where the files lack it, that is the answer, unless something failed or memory was short.
+    // Where the files lack it, that is the answer, unless a write failed.
     ensures lacking { (files : Files) → S.told shelf.old ≡ Some files → IsLacking words.now files
-        → (result ≡ Status.ShelfFault ShelfFault.Absent) ⊎ ((result ≡ Status.ShelfFault ShelfFault.Failed)
-        ⊎ ((result ≡ Status.SinkFault) ⊎ (result ≡ Status.Memory))) }
+        → (result ≡ Status.ShelfFault ShelfFault.Absent) ⊎ (result ≡ Status.SinkFault) }
 
     // A write failed only where the count of a sink rose.
-    ensures sinks { result ≡ Status.SinkFault → Rose (O.faults out.old) (O.faults out.new) ⊎ Rose (E.faults err.old) (E.faults err.new) }
+    ensures sinks { result ≡ Status.SinkFault
+        → SinkRaised (O.faults out.old) (O.faults out.new) (E.faults err.old) (E.faults err.new) }
+
+    // No other answer raises a count.
+    ensures uncounted { TellsNoFault result
+        → SameCounts (S.faults shelf.old) (S.faults shelf.new) }
+    ensures missed { (files : Files) → S.told shelf.old ≡ Some files
+        → result ≡ Status.ShelfFault ShelfFault.Absent
+        → SameCounts (S.faults shelf.old) (S.faults shelf.new) }
+    ensures written_uncounted { ¬ (result ≡ Status.SinkFault)
+        → (O.faults out.new ≡ O.faults out.old) × (E.faults err.new ≡ E.faults err.old) }
+
+    // THE READS. Only names that the words read are read, and the files stay. Words that fit no
+    // command leave the shelf as it was.
+    ensures reads { AfterReads S.after_read (IsReadBy (command words.now)) shelf.old shelf.new }
+    ensures told { S.told shelf.new ≡ S.told shelf.old }
+    ensures unread { command words.now ≡ None → shelf.new ≡ shelf.old }
 
     // Words are refused exactly where they fit no command, unless a write failed.
     ensures usage { result ≡ Status.WordsRefused → command words.now ≡ None }
-    ensures unfit { command words.now ≡ None → (result ≡ Status.WordsRefused) ⊎ (result ≡ Status.SinkFault) }
+    ensures unfit { command words.now ≡ None
+        → (result ≡ Status.WordsRefused) ⊎ (result ≡ Status.SinkFault) }
 
-    // THE HEADLINE. With the status of success the output took bytes of which it is true over the shelf's files,
-    // and over any shelf over some files.
+    // THE HEADLINE. With the status of success the output took bytes of which it is true over the
+    // shelf's files, and over any shelf over some files.
     ensures headline { (files : Files) → S.told shelf.old ≡ Some files → result ≡ Status.Done
         → PrintsHeadline words.now files (O.told out.old) (O.told out.new) }
-    ensures some_files { result ≡ Status.Done → (files : Files) × PrintsHeadline words.now files (O.told out.old) (O.told out.new) }
+    ensures some_files { result ≡ Status.Done → (files : Files)
+        × PrintsHeadline words.now files (O.told out.old) (O.told out.new) }
 {
     let made = work(alloc, words, shelf);
     deliver(made, out, err)

@@ -1,14 +1,21 @@
 -- Counting labels: 3 T labels that are different and within the range are all the labels of the range.
-use Rattle.std.proofs.Common.{ℕ, ℤ, pos, negsuc, Bool, true, false, cond, List, [], ◌∷◌, ◌≡◌, ◌≢◌, ◌≤◌, ◌<◌, ◌+◌, ◌*◌, ◌/◌, suc, zero, ◌⊎◌, inl, inr, refl, sym, ◌∙◌, ap, arith, length, get_or, ltb, length-append}
+--
+-- Let there be ζ edges, with the labels from -ζ to ζ - 1. A list of such labels has as many entries as the counts of
+-- all labels together. Where its entries are different, no count is above 1. So it has at most 2 ζ entries; and where
+-- it has as many, each count is 1. The sides of T triangles are 3 T labels, and ζ is 3 T / 2, rounded down. They are
+-- no more than 2 ζ, so that 3 T is even, and each label of the range stands there exactly once.
+use Rattle.std.proofs.Common.{ℕ, ℤ, pos, negsuc, Bool, cond, List, [], ◌∷◌, ◌≡◌, ◌≢◌, ◌≤◌, ◌<◌, ◌+◌, ◌*◌, ◌/◌, suc}
+use Rattle.std.proofs.Common.{zero, ◌⊎◌, inl, inr, refl, sym, ◌∙◌, ap, arith, length, get_or, ltb, length-append}
 use Rattle.std.specs.List.{All, count_by}
 use Rattle.std.specs.Ordering.{int_eq}
-use Rattle.std.proofs.lemmas.Bool.Decides.{Decides-int_eq, nat_tests}
+use Rattle.std.proofs.lemmas.Bool.Decides.{nat_tests}
 use Rattle.std.proofs.lemmas.List.Elements.{All-head, All-tail}
 use Rattle.std.proofs.lemmas.List.Sums.{sum_by-cons}
+use Rattle.ideal_tri.specs.declared.tri.TheConstants.{NOWHERE, TRIANGLES}
 use Rattle.ideal_tri.specs.Labels.{edge_of}
 use Rattle.ideal_tri.specs.Triangulations.{labels_of, edge_count, IsLabel}
 use Rattle.ideal_tri.specs.Refusals.{IsDistinct, IsOfGoodSize}
-use Rattle.ideal_tri.proofs.Labels.{same_or_not}
+use Rattle.ideal_tri.proofs.Labels.{same_or_not, int_eq-same, int_eq-other}
 use Rattle.ideal_tri.proofs.Places.{small_size}
 
 -- how often a label stands in a list
@@ -23,14 +30,10 @@ pub count-cons : (y : ℤ) (ys : List ℤ) (x : ℤ) → count (y ∷ ys) x ≡ 
 count-cons y ys x = sum_by-cons (λ z. cond (int_eq z x) 1 0) y ys
 
 pub hit_same : (x : ℤ) → hit x x ≡ 1
-hit_same x = ap (λ (b : Bool). cond b 1 0) ((Decides-int_eq x x).1 refl)
+hit_same x = ap (λ (b : Bool). cond b 1 0) (int_eq-same x x refl)
 
 hit_other : (y x : ℤ) → y ≢ x → hit y x ≡ 0
-hit_other y x ne = go (int_eq y x) refl
-  where
-    go : (b : Bool) → int_eq y x ≡ b → ◌≡◌ {A = ℕ} (cond b 1 0) 0
-    go true e = absurd (ne ((Decides-int_eq y x).0 e))
-    go false e = refl
+hit_other y x ne = ap (λ (b : Bool). cond b 1 0) (int_eq-other y x ne)
 
 pub never : (xs : List ℤ) (x : ℤ) → ((k : ℕ) → k < length xs → get_or xs k (pos 0) ≢ x) → count xs x ≡ 0
 never [] x h = refl
@@ -45,7 +48,8 @@ at_most_once [] x d = omega arith
 at_most_once (y ∷ ys) x d =
     elim (same_or_not y x) [
       | inl e ↦
-          (let later : count ys x ≡ 0 = never ys x (λ k b same. d 0 (suc k) (omega arith) (omega arith) (e ∙ sym same)) in
+          (let later : count ys x ≡ 0 =
+          never ys x (λ k b same. d 0 (suc k) (omega arith) (omega arith) (e ∙ sym same)) in
           let here : hit y x ≡ 1 = ap (λ (z : ℤ). hit z x) e ∙ hit_same x in
           omega (arith, count-cons y ys x))
       | inr ne ↦
@@ -99,7 +103,8 @@ both-cons_within x xs (suc n) h =
           omega (arith, count-cons x xs (pos n), count-cons x xs (negsuc n)))
       | inr e ↦
           (let before : both (x ∷ xs) n ≡ both xs n = both-cons_past x xs n (omega arith) in
-          let here : hit x (pos n) + hit x (negsuc n) ≡ 1 = ap (λ (m : ℕ). hit x (pos m) + hit x (negsuc m)) (sym e) ∙ this_edge x in
+          let here : hit x (pos n) + hit x (negsuc n) ≡ 1 =
+          ap (λ (m : ℕ). hit x (pos m) + hit x (negsuc m)) (sym e) ∙ this_edge x in
           omega (arith, count-cons x xs (pos n), count-cons x xs (negsuc n)))
     ]
 
@@ -123,7 +128,8 @@ no_more_than_labels xs n within distinct =
     omega (arith, all_counted xs n within, both-le xs n (λ x. at_most_once xs x distinct))
 
 -- as many as there are: each label stands once
-each_once : (xs : List ℤ) (n : ℕ) → ((x : ℤ) → count xs x ≤ 1) → both xs n ≡ 2 * n → (x : ℤ) → edge_of x < n → count xs x ≡ 1
+each_once : (xs : List ℤ) (n : ℕ) → ((x : ℤ) → count xs x ≤ 1) → both xs n ≡ 2 * n → (x : ℤ) → edge_of x < n
+    → count xs x ≡ 1
 each_once xs zero h full x b = omega arith
 each_once xs (suc n) h full x b =
     elim (lt_or_same (edge_of x) n b) [
@@ -140,7 +146,8 @@ each_once xs (suc n) h full x b =
 pub length-labels_of : (ts : List (List ℤ)) → All (λ t. length t ≡ 3) ts → length (labels_of ts) ≡ 3 * length ts
 length-labels_of [] h = refl
 length-labels_of (t ∷ ts) h =
-    let rest : length (labels_of ts) ≡ 3 * length ts = length-labels_of ts (All-tail (λ (z : List ℤ). length z ≡ 3) t ts h) in
+    let rest : length (labels_of ts) ≡ 3 * length ts =
+    length-labels_of ts (All-tail (λ (z : List ℤ). length z ≡ 3) t ts h) in
     let first : length t ≡ 3 = All-head (λ (z : List ℤ). length z ≡ 3) t ts h in
     omega (arith, length-append t (labels_of ts))
 
@@ -150,10 +157,12 @@ pub record AreAllLabels (ts : List (List ℤ)) : Type 0 where
   pub once : (x : ℤ) → IsLabel ts x → count (labels_of ts) x ≡ 1
   pub none : (x : ℤ) → edge_count ts ≤ edge_of x → count (labels_of ts) x ≡ 0
 
-pub all_labels : (ts : List (List ℤ)) → All (λ t. length t ≡ 3) ts → All (IsLabel ts) (labels_of ts) → IsDistinct (labels_of ts) → AreAllLabels ts
+pub all_labels : (ts : List (List ℤ)) → All (λ t. length t ≡ 3) ts → All (IsLabel ts) (labels_of ts)
+    → IsDistinct (labels_of ts) → AreAllLabels ts
 all_labels ts three within distinct =
     let long : length (labels_of ts) ≡ 3 * length ts = length-labels_of ts three in
-    let all : both (labels_of ts) (edge_count ts) ≡ length (labels_of ts) = all_counted (labels_of ts) (edge_count ts) within in
+    let all : both (labels_of ts) (edge_count ts) ≡ length (labels_of ts) =
+    all_counted (labels_of ts) (edge_count ts) within in
     let few : (x : ℤ) → count (labels_of ts) x ≤ 1 = λ x. at_most_once (labels_of ts) x distinct in
     let least : both (labels_of ts) (edge_count ts) ≤ 2 * edge_count ts = both-le (labels_of ts) (edge_count ts) few in
     let halves : 2 * (3 * length ts / 2) ≤ 3 * length ts = omega arith in
@@ -163,21 +172,24 @@ all_labels ts three within distinct =
       none = λ x b. never (labels_of ts) x (λ k below same. outside x b k below same);
     }
   where
-    outside : (x : ℤ) → edge_count ts ≤ edge_of x → (k : ℕ) → k < length (labels_of ts) → get_or (labels_of ts) k (pos 0) ≢ x
+    outside : (x : ℤ) → edge_count ts ≤ edge_of x → (k : ℕ) → k < length (labels_of ts)
+        → get_or (labels_of ts) k (pos 0) ≢ x
     outside x b k below same =
         let in_range : edge_of (get_or (labels_of ts) k (pos 0)) < edge_count ts = within k (pos 0) below in
         let e : edge_of (get_or (labels_of ts) k (pos 0)) ≡ edge_of x = ap edge_of same in
         omega arith
 
-pub label_counts : (ts : List (List ℤ)) → AreAllLabels ts → (x : ℤ) → count (labels_of ts) x ≡ cond (ltb (edge_of x) (edge_count ts)) 1 0
+pub label_counts : (ts : List (List ℤ)) → AreAllLabels ts → (x : ℤ)
+    → count (labels_of ts) x ≡ cond (ltb (edge_of x) (edge_count ts)) 1 0
 label_counts ts h x =
     elim (lt_or_le (edge_of x) (edge_count ts)) [
       | inl b ↦ (let one : count (labels_of ts) x ≡ 1 = h.once x b in grind (arith, nat_tests))
       | inr b ↦ (let none : count (labels_of ts) x ≡ 0 = h.none x b in grind (arith, nat_tests))
     ]
 
-pub below_255 : (ts : List (List ℤ)) (xs : List ℤ) (k : ℕ) → xs ≡ labels_of ts → IsOfGoodSize ts → All (λ t. length t ≡ 3) ts → k < length xs → k < 255
+pub below_255 : (ts : List (List ℤ)) (xs : List ℤ) (k : ℕ) → xs ≡ labels_of ts → IsOfGoodSize ts
+    → All (λ t. length t ≡ 3) ts → k < length xs → k < NOWHERE
 below_255 ts xs k e size three b =
-    let small : length ts ≤ 32 = small_size ts size in
+    let small : length ts ≤ TRIANGLES = small_size ts size in
     let long : length xs ≡ 3 * length ts = ap length e ∙ length-labels_of ts three in
     omega arith

@@ -1,5 +1,13 @@
 -- The words of a drawing cross each edge as often as the vector says.
-use Rattle.std.proofs.Common.{ℕ, ℤ, pos, negsuc, zero, suc, Bool, true, false, cond, eqb, List, [], ◌∷◌, ◌++◌, ◌≡◌, ◌≢◌, ◌<◌, ◌+◌, ◌-◌, inl, inr, refl, sym, ◌∙◌, ap, subst, arith}
+--
+-- A drawing uses each strand once, counting both directions. A state at the label x and the place j passes one strand
+-- of the edge of x: the one with number j, seen from the side that isn't negative, or the one with number w - 1 - j,
+-- where w is the weight of the edge. So for each state on an edge the passes of all strands of the edge add up to one,
+-- and for a state elsewhere to none. Summed over all states, the number of states on an edge is the sum of the uses of
+-- its strands. Each is one, and there are as many strands as the weight. The letters of the words are the labels of
+-- the states.
+use Rattle.std.proofs.Common.{ℕ, ℤ, pos, negsuc, zero, suc, Bool, true, false, cond, eqb, List, [], ◌∷◌, ◌++◌, ◌≡◌, ◌≢◌}
+use Rattle.std.proofs.Common.{◌<◌, ◌+◌, ◌-◌, inl, inr, refl, sym, ◌∙◌, ap, subst, arith}
 use Rattle.std.specs.List.{All, count_by, flat_map}
 use Rattle.std.specs.Ordering.{int_eq}
 use Rattle.std.specs.Prelude.{slice_index}
@@ -11,7 +19,8 @@ use Rattle.ideal_tri.specs.Labels.{edge_of}
 use Rattle.ideal_tri.specs.Curves.{crossings}
 use Rattle.ideal_tri.specs.Triangulations.{edge_count}
 use Rattle.ideal_tri.specs.Vectors.{weight}
-use Rattle.ideal_tri.specs.Strands.{State, state_at, IsStrand, same_state, opposite, IsClosedRun, uses, IsDrawing, word_of, words_of}
+use Rattle.ideal_tri.specs.Strands.{State, state_at, IsStrand, same_state, opposite, IsClosedRun, uses, IsDrawing}
+use Rattle.ideal_tri.specs.Strands.{word_of, words_of}
 use Rattle.ideal_tri.proofs.Labels.{int_eq-same, int_eq-other}
 
 -- ---- sums over the numbers below n
@@ -59,20 +68,30 @@ passes w s q = cond (same_state s q) 1 0 + cond (same_state (opposite w s) q) 1 
 uses-cons : (w : List ℕ) (s q : State) (run : List State) → uses w s (q ∷ run) ≡ passes w s q + uses w s run
 unfolding passes
 uses-cons w s q run =
-    omega (arith, sum_by-cons (λ r. cond (same_state s r) 1 0) q run, sum_by-cons (λ r. cond (same_state (opposite w s) r) 1 0) q run)
+    omega (
+      arith,
+      sum_by-cons (λ r. cond (same_state s r) 1 0) q run,
+      sum_by-cons
+          (λ r. cond (same_state (opposite w s) r) 1 0) q run,
+    )
 
 same_state-yes : (s q : State) → s.label ≡ q.label → s.place ≡ q.place → same_state s q ≡ true
-same_state-yes s q l p = and_from (int_eq s.label q.label) (eqb s.place q.place) (int_eq-same s.label q.label l) (eq-eqb s.place q.place p)
+same_state-yes s q l p =
+    and_from (int_eq s.label q.label) (eqb s.place q.place) (int_eq-same s.label q.label l) (eq-eqb s.place q.place p)
 
 same_state-other_label : (s q : State) → s.label ≢ q.label → same_state s q ≡ false
-same_state-other_label s q ne = and_left (int_eq s.label q.label) (eqb s.place q.place) (int_eq-other s.label q.label ne)
+same_state-other_label s q ne =
+    and_left (int_eq s.label q.label) (eqb s.place q.place) (int_eq-other s.label q.label ne)
 
 same_state-other_place : (s q : State) → s.place ≢ q.place → same_state s q ≡ false
 same_state-other_place s q ne = and_right (int_eq s.label q.label) (eqb s.place q.place) (ne_eqb s.place q.place ne)
 
-passes-is : (w : List ℕ) (s q : State) (b c : Bool) → same_state s q ≡ b → same_state (opposite w s) q ≡ c → passes w s q ≡ cond b 1 0 + cond c 1 0
+passes-is : (w : List ℕ) (s q : State) (b c : Bool) → same_state s q ≡ b → same_state (opposite w s) q ≡ c
+    → passes w s q ≡ cond b 1 0 + cond c 1 0
 unfolding passes
-passes-is w s q b c e f = ap (λ (t : Bool). cond t 1 0 + cond (same_state (opposite w s) q) 1 0) e ∙ ap (λ (t : Bool). cond b 1 0 + cond t 1 0) f
+passes-is w s q b c e f =
+    ap (λ (t : Bool). cond t 1 0 + cond (same_state (opposite w s) q) 1 0) e
+    ∙ ap (λ (t : Bool). cond b 1 0 + cond t 1 0) f
 
 pos_not_negsuc : (m n : ℕ) → pos m ≢ negsuc n
 pos_not_negsuc m n e = cc
@@ -93,17 +112,21 @@ passes-same_edge w e (pos n) j within en =
     (same_state-other_place (state_at (pos e) i) (state_at (pos n) j) ne)
     (same_state-other_label (opposite w (state_at (pos e) i)) (state_at (pos n) j) (λ f. pos_not_negsuc n e (sym f))))
 passes-same_edge w e (negsuc n) j within en =
-    total-single (λ i. passes w (state_at (pos e) i) (state_at (negsuc n) j)) (weight w (pos e)) (weight w (pos e) - 1 - j)
+    total-single (λ i. passes w (state_at (pos e) i) (state_at (negsuc n) j)) (weight w (pos e))
+    (weight w (pos e) - 1 - j)
     (omega (arith, within_edge w e (negsuc n) j within en))
     (passes-is w (state_at (pos e) (weight w (pos e) - 1 - j)) (state_at (negsuc n) j) false true
     (same_state-other_label (state_at (pos e) (weight w (pos e) - 1 - j)) (state_at (negsuc n) j) (pos_not_negsuc e n))
-    (same_state-yes (opposite w (state_at (pos e) (weight w (pos e) - 1 - j))) (state_at (negsuc n) j) (ap negsuc (sym en)) (omega (arith, within_edge w e (negsuc n) j within en))))
+    (same_state-yes (opposite w (state_at (pos e) (weight w (pos e) - 1 - j))) (state_at (negsuc n) j)
+    (ap negsuc (sym en)) (omega (arith, within_edge w e (negsuc n) j within en))))
     (λ i b ne. passes-is w (state_at (pos e) i) (state_at (negsuc n) j) false false
     (same_state-other_label (state_at (pos e) i) (state_at (negsuc n) j) (pos_not_negsuc e n))
-    (same_state-other_place (opposite w (state_at (pos e) i)) (state_at (negsuc n) j) (λ f. ne (omega (arith, within_edge w e (negsuc n) j within en)))))
+    (same_state-other_place (opposite w (state_at (pos e) i)) (state_at (negsuc n) j)
+    (λ f. ne (omega (arith, within_edge w e (negsuc n) j within en)))))
 
 -- a state on another edge passes none
-passes-other_edge : (w : List ℕ) (e : ℕ) (q : State) (n : ℕ) → edge_of q.label ≢ e → total (λ i. passes w (state_at (pos e) i) q) n ≡ 0
+passes-other_edge : (w : List ℕ) (e : ℕ) (q : State) (n : ℕ) → edge_of q.label ≢ e
+    → total (λ i. passes w (state_at (pos e) i) q) n ≡ 0
 passes-other_edge w e q n ne =
     total-zeros (λ i. passes w (state_at (pos e) i) q) n
     (λ i b. passes-is w (state_at (pos e) i) q false false
@@ -133,12 +156,15 @@ pub edge_uses : (w : List ℕ) (e : ℕ) (run : List State) → All (IsWithin w)
 edge_uses w e [] h = sym (total-zeros (λ i. uses w (state_at (pos e) i) []) (weight w (pos e)) (λ i b. refl))
 edge_uses w e (q ∷ run) h =
     let more : total (λ i. uses w (state_at (pos e) i) (q ∷ run)) (weight w (pos e))
-    ≡ total (λ i. passes w (state_at (pos e) i) q) (weight w (pos e)) + total (λ i. uses w (state_at (pos e) i) run) (weight w (pos e)) =
-    total-add (λ i. passes w (state_at (pos e) i) q) (λ i. uses w (state_at (pos e) i) run) (λ i. uses w (state_at (pos e) i) (q ∷ run))
+    ≡ total (λ i. passes w (state_at (pos e) i) q) (weight w (pos e)) + total (λ i. uses w (state_at (pos e) i) run)
+    (weight w (pos e)) =
+    total-add (λ i. passes w (state_at (pos e) i) q) (λ i. uses w (state_at (pos e) i) run)
+    (λ i. uses w (state_at (pos e) i) (q ∷ run))
     (weight w (pos e)) (λ i. uses-cons w (state_at (pos e) i) q run) in
     let here : cond (eqb (edge_of q.label) e) 1 0 ≡ total (λ i. passes w (state_at (pos e) i) q) (weight w (pos e)) =
     one_state w e q (All-head (IsWithin w) q run h) in
-    let rest : count_by (λ p. eqb (edge_of p.label) e) run ≡ total (λ i. uses w (state_at (pos e) i) run) (weight w (pos e)) =
+    let rest : count_by (λ p. eqb (edge_of p.label) e) run
+    ≡ total (λ i. uses w (state_at (pos e) i) run) (weight w (pos e)) =
     edge_uses w e run (All-tail (IsWithin w) q run h) in
     sum_by-cons (λ p. cond (eqb (edge_of p.label) e) 1 0) q run
     ∙ ap (λ (k : ℕ). k + count_by (λ p. eqb (edge_of p.label) e) run) here
@@ -164,7 +190,8 @@ all_within : (triples : List (List ℤ)) (w : List ℕ) (runs : List (List State
 all_within triples w [] h = All-nil (IsWithin w)
 all_within triples w (run ∷ runs) h =
     All-append (IsWithin w) run (flat_map (λ r. r) runs)
-    (All-weaker (IsStrand triples w) (IsWithin w) (λ p s. s.within) run (All-head (IsClosedRun triples w) run runs h).strands)
+    (All-weaker (IsStrand triples w) (IsWithin w) (λ p s. s.within) run
+    (All-head (IsClosedRun triples w) run runs h).strands)
     (all_within triples w runs (All-tail (IsClosedRun triples w) run runs h))
 
 -- a drawing crosses each edge as often as the vector says

@@ -1,13 +1,30 @@
 -- The cyclic reduction of closed words: its shape, and that conjugate words have it up to rotation.
-use Rattle.std.proofs.Common.{ℕ, ℤ, zero, suc, Bool, cond, List, [], ◌∷◌, ◌++◌, ◌≡◌, ◌≢◌, ◌≤◌, inl, inr, refl, sym, ◌∙◌, ap, subst, append_assoc, arith, length, length-append}
+--
+-- The reduction of w is p c p⁻¹, with c cyclically reduced: as long as the two ends are inverse to each other, they
+-- are taken off together. The word is short, so that this ends, and more steps than the word has letters change
+-- nothing.
+--
+-- Let core be what is left of a reduced word. A letter x in front of a reduced word w, or at its end, gives the same
+-- core up to rotation. If x cancels at neither end, the two words are rotations of each other, and so are their cores:
+-- both are cyclically reduced, or the ends of both match. If it cancels at one end alone, x w and w x are w without
+-- its last letter and x w, or the other way round. If it cancels at both, w begins and ends with the inverse of x. By
+-- this, letter by letter, rotations and conjugates of a word have the same cyclic reduction up to rotation.
+-- Conversely, where u = p (a b) p⁻¹ and v = r (b a) r⁻¹, the word p a r⁻¹ conjugates u to v.
+use Rattle.std.proofs.Common.{ℕ, ℤ, zero, suc, Bool, cond, List, [], ◌∷◌, ◌++◌, ◌≡◌, ◌≢◌, ◌≤◌, inl, inr, refl, sym, ◌∙◌}
+use Rattle.std.proofs.Common.{ap, subst, append_assoc, arith, length, length-append}
 use Rattle.std.specs.List.{All}
 use Rattle.std.proofs.lemmas.List.{append-nil}
 use Rattle.std.proofs.lemmas.List.Elements.{All-nil, All-cons, All-head, All-tail}
 use Rattle.ideal_tri.specs.Labels.{inverse}
-use Rattle.ideal_tri.specs.Words.{inverse_word, IsReduced, push, act, reduce, IsRotation, IsCyclicallyReduced, last_of, but_last, strip, cyclic_reduce}
+use Rattle.ideal_tri.specs.Words.{inverse_word, IsReduced, push, act, reduce, IsRotation, IsCyclicallyReduced, last_of}
+use Rattle.ideal_tri.specs.Words.{but_last, strip, cyclic_reduce}
 use Rattle.ideal_tri.specs.Curves.{IsSameCurve}
 use Rattle.ideal_tri.proofs.Labels.{not_own_inverse, inverse_turns, same_or_not, int_eq-same, int_eq-other}
-use Rattle.ideal_tri.proofs.Reduction.{IsReduced-tail, IsReduced-front, IsReduced-glue, push-cancels, push-goes_on, IsReduced-reduce, reduce-fixed, reduce-reduce, reduce-left, reduce-right, reduce-take_off, reduce-cancel_back, IsReduced-act, act-append, act-reduce, act-inverse_word, reduce-drop_pair, reduce-inverse_word, reduce-keeps, inverse_word-append, IsReduced-inverse_word}
+use Rattle.ideal_tri.proofs.Reduction.{IsReduced-tail, IsReduced-front, IsReduced-glue, push-cancels, push-goes_on}
+use Rattle.ideal_tri.proofs.Reduction.{IsReduced-reduce, reduce-fixed, reduce-reduce, reduce-left, reduce-right}
+use Rattle.ideal_tri.proofs.Reduction.{reduce-take_off, reduce-cancel_back, IsReduced-act, act-append, act-reduce}
+use Rattle.ideal_tri.proofs.Reduction.{act-inverse_word, reduce-drop_pair, reduce-inverse_word, reduce-keeps}
+use Rattle.ideal_tri.proofs.Reduction.{inverse_word-append, IsReduced-inverse_word}
 use Rattle.ideal_tri.proofs.Rotations.{Rotation-refl, Rotation-same, Rotation-sym, Rotation-trans, Rotation-steps}
 
 -- ---- the two ends of a word
@@ -33,15 +50,18 @@ length-but_last (x ∷ (y ∷ w)) = omega (arith, length-but_last (y ∷ w))
 
 IsReduced-but_last : (w : List ℤ) → IsReduced w → IsReduced (but_last w)
 IsReduced-but_last [] h = tt
-IsReduced-but_last (x ∷ w) h = IsReduced-front (but_last (x ∷ w)) (last_of x w ∷ []) (subst IsReduced (ends_in_last x w) h)
+IsReduced-but_last (x ∷ w) h =
+    IsReduced-front (but_last (x ∷ w)) (last_of x w ∷ []) (subst IsReduced (ends_in_last x w) h)
 
 All-but_last : (P : ℤ → Type 0) (w : List ℤ) → All P w → All P (but_last w)
 All-but_last P [] h = h
 All-but_last P (x ∷ []) h = All-nil P
-All-but_last P (x ∷ (y ∷ w)) h = All-cons P x (but_last (y ∷ w)) (All-head P x (y ∷ w) h) (All-but_last P (y ∷ w) (All-tail P x (y ∷ w) h))
+All-but_last P (x ∷ (y ∷ w)) h =
+    All-cons P x (but_last (y ∷ w)) (All-head P x (y ∷ w) h) (All-but_last P (y ∷ w) (All-tail P x (y ∷ w) h))
 
 -- a letter may follow a reduced word whose last letter is not its inverse
-IsReduced-follow : (x : ℤ) (w : List ℤ) (z : ℤ) → IsReduced (x ∷ w) → z ≢ inverse (last_of x w) → IsReduced (x ∷ (w ++ (z ∷ [])))
+IsReduced-follow : (x : ℤ) (w : List ℤ) (z : ℤ) → IsReduced (x ∷ w) → z ≢ inverse (last_of x w)
+    → IsReduced (x ∷ (w ++ (z ∷ [])))
 IsReduced-follow x [] z h n = (n, tt)
 IsReduced-follow x (y ∷ w) z h n = (h.0, IsReduced-follow y w z h.1 n)
 
@@ -76,7 +96,8 @@ pub cyclic-inverse_word : (w : List ℤ) → IsCyclicallyReduced w → IsCyclica
 cyclic-inverse_word [] h = tt
 cyclic-inverse_word (x ∷ w) h =
     cyclic-step (inverse x) (inverse_word w)
-    (subst (λ (z : List ℤ). IsReduced (z ++ (inverse x ∷ []))) (inverse_word-append w (x ∷ [])) (IsReduced-inverse_word (x ∷ (w ++ (x ∷ []))) h))
+    (subst (λ (z : List ℤ). IsReduced (z ++ (inverse x ∷ []))) (inverse_word-append w (x ∷ []))
+    (IsReduced-inverse_word (x ∷ (w ++ (x ∷ []))) h))
 
 -- ---- stripping
 
@@ -87,7 +108,8 @@ strip-peels n x w e = ap (λ (b : Bool). cond b (strip n (but_last w)) (x ∷ w)
 strip-stays : (n : ℕ) (x : ℤ) (w : List ℤ) → last_of x w ≢ inverse x → strip n (x ∷ w) ≡ x ∷ w
 unfolding strip
 strip-stays zero x w ne = refl
-strip-stays (suc n) x w ne = ap (λ (b : Bool). cond b (strip n (but_last w)) (x ∷ w)) (int_eq-other (last_of x w) (inverse x) ne)
+strip-stays (suc n) x w ne =
+    ap (λ (b : Bool). cond b (strip n (but_last w)) (x ∷ w)) (int_eq-other (last_of x w) (inverse x) ne)
 
 strip-zero : (w : List ℤ) → strip zero w ≡ w
 unfolding strip
@@ -129,7 +151,8 @@ strip-shape (suc n) (x ∷ w) =
             ends_match x w e
                 ∙ ap (λ (z : List ℤ). x ∷ (z ++ (inverse x ∷ []))) shape
                 ∙ ap (λ (z : List ℤ). x ∷ z) (append_assoc p (strip n (but_last w) ++ inverse_word p) (inverse x ∷ []))
-                ∙ ap (λ (z : List ℤ). x ∷ (p ++ z)) (append_assoc (strip n (but_last w)) (inverse_word p) (inverse x ∷ []))
+                ∙ ap (λ (z : List ℤ). x ∷ (p ++ z))
+                (append_assoc (strip n (but_last w)) (inverse_word p) (inverse x ∷ []))
                 ∙ ap (λ (z : List ℤ). x ∷ (p ++ (z ++ inverse_word (x ∷ p)))) (sym (strip-peels n x w e)),
           ))
       | inr ne ↦ ([], sym (append-nil (strip (suc n) (x ∷ w)) ∙ strip-stays (suc n) x w ne))
@@ -155,7 +178,8 @@ strip-keeps P n [] h = subst (All P) (sym (strip-nil n)) h
 strip-keeps P zero (x ∷ w) h = subst (All P) (sym (strip-zero (x ∷ w))) h
 strip-keeps P (suc n) (x ∷ w) h =
     elim (same_or_not (last_of x w) (inverse x)) [
-      | inl e ↦ subst (All P) (sym (strip-peels n x w e)) (strip-keeps P n (but_last w) (All-but_last P w (All-tail P x w h)))
+      | inl e ↦
+          subst (All P) (sym (strip-peels n x w e)) (strip-keeps P n (but_last w) (All-but_last P w (All-tail P x w h)))
       | inr ne ↦ subst (All P) (sym (strip-stays (suc n) x w ne)) h
     ]
 
@@ -206,14 +230,16 @@ core-peels x m z e =
     ∙ strip-enough (length (m ++ (z ∷ []))) (length m) m (omega (arith, length-append m (z ∷ []))) (omega arith)
 
 -- the last letter takes x away
-popped : (y : ℤ) (w : List ℤ) (x : ℤ) → IsReduced (y ∷ w) → last_of y w ≡ inverse x → reduce ((y ∷ w) ++ (x ∷ [])) ≡ but_last (y ∷ w)
+popped : (y : ℤ) (w : List ℤ) (x : ℤ) → IsReduced (y ∷ w) → last_of y w ≡ inverse x
+    → reduce ((y ∷ w) ++ (x ∷ [])) ≡ but_last (y ∷ w)
 popped y w x h e =
     ap (λ (v : List ℤ). reduce (v ++ (x ∷ []))) (ends_in_last y w)
     ∙ ap reduce (append_assoc (but_last (y ∷ w)) (last_of y w ∷ []) (x ∷ []))
     ∙ ap (λ (z : ℤ). reduce (but_last (y ∷ w) ++ (last_of y w ∷ (z ∷ [])))) (inverse_turns x (last_of y w) e)
     ∙ reduce-drop_pair (but_last (y ∷ w)) (last_of y w) (subst IsReduced (ends_in_last y w) h)
 
-followed : (y : ℤ) (w : List ℤ) (x : ℤ) → IsReduced (y ∷ w) → last_of y w ≢ inverse x → reduce ((y ∷ w) ++ (x ∷ [])) ≡ y ∷ (w ++ (x ∷ []))
+followed : (y : ℤ) (w : List ℤ) (x : ℤ) → IsReduced (y ∷ w) → last_of y w ≢ inverse x
+    → reduce ((y ∷ w) ++ (x ∷ [])) ≡ y ∷ (w ++ (x ∷ []))
 followed y w x h ne =
     reduce-fixed (y ∷ (w ++ (x ∷ []))) (IsReduced-follow y w x h (λ e. ne (inverse_turns (last_of y w) x e)))
 
@@ -221,7 +247,8 @@ followed y w x h ne =
 record Turns (x : ℤ) (w : List ℤ) : Type 0 where
   same : IsRotation (core (push x w)) (core (reduce (w ++ (x ∷ []))))
 
-turns_by : (x : ℤ) (w u v : List ℤ) → push x w ≡ u → reduce (w ++ (x ∷ [])) ≡ v → IsRotation (core u) (core v) → Turns x w
+turns_by : (x : ℤ) (w u v : List ℤ) → push x w ≡ u → reduce (w ++ (x ∷ [])) ≡ v → IsRotation (core u) (core v)
+    → Turns x w
 turns_by x w u v e f r = record {
   same =
       subst (λ (z : List ℤ). IsRotation (core z) (core (reduce (w ++ (x ∷ []))))) (sym e)
@@ -240,7 +267,8 @@ neither_cancels x y w front back =
     (sym (core-stays_between y w x (λ e. front (inverse_turns y x e))))))
 
 -- a word that ends as it begins: without its first or its last letter it is the same closed word
-one_end_off : (y : ℤ) (m : List ℤ) (z : ℤ) → z ≡ y → IsReduced (y ∷ (m ++ (z ∷ []))) → IsRotation (core (m ++ (z ∷ []))) (core (y ∷ m))
+one_end_off : (y : ℤ) (m : List ℤ) (z : ℤ) → z ≡ y → IsReduced (y ∷ (m ++ (z ∷ [])))
+    → IsRotation (core (m ++ (z ∷ []))) (core (y ∷ m))
 one_end_off y m z same h =
     Rotation-trans (core (m ++ (z ∷ []))) (m ++ (z ∷ [])) (core (y ∷ m))
     (Rotation-same (core (m ++ (z ∷ []))) (m ++ (z ∷ [])) (front_stays m h))
@@ -271,7 +299,8 @@ turns x (y ∷ w) h =
       | inl front ↦
           elim (same_or_not (last_of y w) (inverse x)) [
             | inl back ↦
-                turns_by x (y ∷ w) w (but_last (y ∷ w)) (push-cancels x y w front) (popped y w x h back) (both_cancel x y w h front back)
+                turns_by x (y ∷ w) w (but_last (y ∷ w)) (push-cancels x y w front) (popped y w x h back)
+                (both_cancel x y w h front back)
             | inr back ↦
                 turns_by x (y ∷ w) w (y ∷ (w ++ (x ∷ []))) (push-cancels x y w front) (followed y w x h back)
                 (Rotation-same (core w) (core (y ∷ (w ++ (x ∷ [])))) (sym (core-peels y w x (inverse_turns x y front))))
@@ -281,9 +310,11 @@ turns x (y ∷ w) h =
             | inl back ↦
                 turns_by x (y ∷ w) (x ∷ (y ∷ w)) (but_last (y ∷ w)) (push-goes_on x y w front) (popped y w x h back)
                 (Rotation-same (core (x ∷ (y ∷ w))) (core (but_last (y ∷ w)))
-                (ap (λ (z : List ℤ). core (x ∷ z)) (ends_in_last y w) ∙ core-peels x (but_last (y ∷ w)) (last_of y w) back))
+                (ap (λ (z : List ℤ). core (x ∷ z)) (ends_in_last y w) ∙ core-peels x (but_last (y ∷ w)) (last_of y w)
+                back))
             | inr back ↦
-                turns_by x (y ∷ w) (x ∷ (y ∷ w)) (y ∷ (w ++ (x ∷ []))) (push-goes_on x y w front) (followed y w x h back)
+                turns_by x (y ∷ w) (x ∷ (y ∷ w)) (y ∷ (w ++ (x ∷ []))) (push-goes_on x y w front)
+                (followed y w x h back)
                 (neither_cancels x y w front back)
           ]
     ]
@@ -293,14 +324,16 @@ turns x (y ∷ w) h =
 cyclic_reduce-step : (x : ℤ) (w : List ℤ) → IsRotation (cyclic_reduce (x ∷ w)) (cyclic_reduce (w ++ (x ∷ [])))
 unfolding core cyclic_reduce
 cyclic_reduce-step x w =
-    subst (λ (z : List ℤ). IsRotation (cyclic_reduce (x ∷ w)) (core z)) (reduce-left (reduce w) w (x ∷ []) (reduce-reduce w))
+    subst (λ (z : List ℤ). IsRotation (cyclic_reduce (x ∷ w)) (core z))
+    (reduce-left (reduce w) w (x ∷ []) (reduce-reduce w))
     (turns x (reduce w) (IsReduced-reduce w)).same
 
 -- rotations of one word have cyclic reductions that are rotations of each other
 pub cyclic_reduce-rotation : (u v : List ℤ) → IsRotation u v → IsRotation (cyclic_reduce u) (cyclic_reduce v)
 cyclic_reduce-rotation u v r =
     Rotation-steps (λ (z : List ℤ). IsRotation (cyclic_reduce u) (cyclic_reduce z))
-    (λ x w h. Rotation-trans (cyclic_reduce u) (cyclic_reduce (x ∷ w)) (cyclic_reduce (w ++ (x ∷ []))) h (cyclic_reduce-step x w))
+    (λ x w h. Rotation-trans (cyclic_reduce u) (cyclic_reduce (x ∷ w)) (cyclic_reduce (w ++ (x ∷ []))) h
+    (cyclic_reduce-step x w))
     u v r (Rotation-refl (cyclic_reduce u))
 
 -- and so have conjugate words
@@ -312,23 +345,28 @@ cyclic_reduce-conjugate q u v e =
     (sym (cyclic_reduce-respects ((u ++ q) ++ inverse_word q) u (reduce-take_off u q))))
     (subst (IsRotation (cyclic_reduce ((u ++ q) ++ inverse_word q)))
     (cyclic_reduce-respects (inverse_word q ++ (u ++ q)) v e)
-    (cyclic_reduce-rotation ((u ++ q) ++ inverse_word q) (inverse_word q ++ (u ++ q)) (u ++ q, inverse_word q, refl, refl)))
+    (cyclic_reduce-rotation ((u ++ q) ++ inverse_word q) (inverse_word q ++ (u ++ q))
+    (u ++ q, inverse_word q, refl, refl)))
 
 -- the way back along p c p⁻¹
-inverse_word-between : (p c : List ℤ) → inverse_word (p ++ (c ++ inverse_word p)) ≡ inverse_word (inverse_word p) ++ (inverse_word c ++ inverse_word p)
+inverse_word-between : (p c : List ℤ)
+    → inverse_word (p ++ (c ++ inverse_word p)) ≡ inverse_word (inverse_word p) ++ (inverse_word c ++ inverse_word p)
 inverse_word-between p c =
     inverse_word-append p (c ++ inverse_word p)
     ∙ ap (λ (z : List ℤ). z ++ inverse_word p) (inverse_word-append c (inverse_word p))
     ∙ append_assoc (inverse_word (inverse_word p)) (inverse_word c) (inverse_word p)
 
-pub cyclic_reduce-inverse_word : (w : List ℤ) → IsRotation (cyclic_reduce (inverse_word w)) (inverse_word (cyclic_reduce w))
+pub cyclic_reduce-inverse_word : (w : List ℤ)
+    → IsRotation (cyclic_reduce (inverse_word w)) (inverse_word (cyclic_reduce w))
 cyclic_reduce-inverse_word w =
     let (p, shape) = cyclic_reduce-shape w in
-    let back : reduce (inverse_word w) ≡ inverse_word (inverse_word p) ++ (inverse_word (cyclic_reduce w) ++ inverse_word p) =
+    let back : reduce (inverse_word w)
+    ≡ inverse_word (inverse_word p) ++ (inverse_word (cyclic_reduce w) ++ inverse_word p) =
     reduce-inverse_word w ∙ ap inverse_word shape ∙ inverse_word-between p (cyclic_reduce w) in
     Rotation-sym (inverse_word (cyclic_reduce w)) (cyclic_reduce (inverse_word w))
     (subst (λ (z : List ℤ). IsRotation z (cyclic_reduce (inverse_word w)))
-    (cyclic_reduce-fixed (inverse_word (cyclic_reduce w)) (cyclic-inverse_word (cyclic_reduce w) (cyclic_reduce-cyclic w)))
+    (cyclic_reduce-fixed (inverse_word (cyclic_reduce w))
+    (cyclic-inverse_word (cyclic_reduce w) (cyclic_reduce-cyclic w)))
     (cyclic_reduce-conjugate (inverse_word p) (inverse_word (cyclic_reduce w)) (inverse_word w)
     (ap reduce (sym back) ∙ reduce-reduce (inverse_word w))))
 
@@ -345,11 +383,13 @@ cyclic_reduce-same_curve u v (inr r) =
 act-between : (p c w : List ℤ) → act (p ++ (c ++ inverse_word p)) w ≡ act p (act c (act (inverse_word p) w))
 act-between p c w = act-append p (c ++ inverse_word p) w ∙ ap (act p) (act-append c (inverse_word p) w)
 
-act-along : (u p c w : List ℤ) → reduce u ≡ p ++ (c ++ inverse_word p) → IsReduced w → act u w ≡ act p (act c (act (inverse_word p) w))
+act-along : (u p c w : List ℤ) → reduce u ≡ p ++ (c ++ inverse_word p) → IsReduced w
+    → act u w ≡ act p (act c (act (inverse_word p) w))
 act-along u p c w e h = sym (act-reduce u w h) ∙ ap (λ (z : List ℤ). act z w) e ∙ act-between p c w
 
 -- what the word p a r⁻¹ is for the words p a b p⁻¹ and r b a r⁻¹
-carries_over : (u v p a b r : List ℤ) → reduce u ≡ p ++ ((a ++ b) ++ inverse_word p) → reduce v ≡ r ++ ((b ++ a) ++ inverse_word r)
+carries_over : (u v p a b r : List ℤ) → reduce u ≡ p ++ ((a ++ b) ++ inverse_word p)
+    → reduce v ≡ r ++ ((b ++ a) ++ inverse_word r)
     → reduce (u ++ (p ++ (a ++ inverse_word r))) ≡ reduce ((p ++ (a ++ inverse_word r)) ++ v)
 carries_over u v p a b r e f = first ∙ sym second
   where
@@ -373,7 +413,8 @@ carries_over u v p a b r e f = first ∙ sym second
         ∙ ap (act (p ++ (a ++ inverse_word r))) (act-along v r (b ++ a) [] f tt)
         ∙ act-append p (a ++ inverse_word r) (act r (act (b ++ a) end))
         ∙ ap (act p) (act-append a (inverse_word r) (act r (act (b ++ a) end)))
-        ∙ ap (λ (z : List ℤ). act p (act a z)) (act-inverse_word r (act (b ++ a) end) (IsReduced-act (b ++ a) end end_reduced))
+        ∙ ap (λ (z : List ℤ). act p (act a z))
+        (act-inverse_word r (act (b ++ a) end) (IsReduced-act (b ++ a) end end_reduced))
         ∙ ap (λ (z : List ℤ). act p (act a z)) (act-append b a end)
 
 -- words whose cyclic reductions are rotations of each other are conjugate

@@ -1,8 +1,9 @@
--- Worked examples on the once-punctured torus: the definitions give what the field expects.
+-- Worked examples on the once-punctured torus, and on two of them: the definitions give what the field expects.
 use Rattle.std.specs.Prelude.{◌≡◌, ℕ, ℤ, pos, negsuc, List, [], ◌∷◌, refl, true}
 use Rattle.ideal_tri.specs.Words.{reduce, cyclic_reduce, strip}
 use Rattle.ideal_tri.specs.Curves.{is_rotation, is_same_curve, crossings}
 use Rattle.ideal_tri.specs.Triangulations.{next, triangle_of, side_of, edge_count}
+use Rattle.ideal_tri.specs.Components.{component_of, component_count}
 use Rattle.ideal_tri.specs.Vectors.{corner_count}
 use Rattle.ideal_tri.specs.Vertices.{vertex_count, genus}
 use Rattle.ideal_tri.specs.Flips.{flipped}
@@ -86,3 +87,18 @@ sphere_genus = refl
 
 flip_of_0 : flipped torus (pos 0) ≡ (pos 0 ∷ negsuc 2 ∷ pos 1 ∷ []) ∷ (negsuc 0 ∷ pos 2 ∷ negsuc 1 ∷ []) ∷ []
 flip_of_0 = refl
+
+-- two once-punctured tori
+abbrev tori : List (List ℤ)
+tori =
+    (pos 0 ∷ pos 1 ∷ pos 2 ∷ []) ∷ (negsuc 0 ∷ negsuc 1 ∷ negsuc 2 ∷ []) ∷ (pos 3 ∷ pos 4 ∷ pos 5 ∷ [])
+    ∷ (negsuc 3 ∷ negsuc 4 ∷ negsuc 5 ∷ []) ∷ []
+
+two_components : component_count tori ≡ 2
+two_components = refl
+
+second_component : component_of tori 3 ≡ 1
+second_component = refl
+
+genera : genus tori ≡ 2
+genera = refl

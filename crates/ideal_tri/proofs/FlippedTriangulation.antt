@@ -1,34 +1,26 @@
 -- The flip of an edge of a triangulation is a triangulation, and what stands where in it.
-use Rattle.std.proofs.Common.{ℕ, ℤ, pos, negsuc, List, [], ◌∷◌, ◌++◌, ◌≡◌, ◌≢◌, ◌<◌, ◌*◌, ◌/◌, ◌⊎◌, inl, inr, cond, nat_lt, refl, sym, ◌∙◌, ap, subst, length, set}
+--
+-- Let (e,a,b) and (~e,c,d) be the two triangles, which are different. Afterwards (e,d,a) and (~e,b,c) stand in their
+-- places. The six sides are the same labels as before, so each label still stands once. All but b and d keep their
+-- triangle, and labels outside the two triangles keep the side after them.
+--
+-- What a walk joins stays joined: the edge e joins its two triangles before and after, so that the old triangle of
+-- each label is joined to its new one, and with it the old triangle of x to that of ~x.
+use Rattle.std.proofs.Common.{ℕ, ℤ, pos, negsuc, List, [], ◌∷◌, ◌≡◌, ◌≢◌, ◌<◌, ◌*◌, ◌/◌, ◌⊎◌, inl, inr, cond, nat_lt}
+use Rattle.std.proofs.Common.{refl, sym, ◌∙◌, ap, subst, length, set}
 use Rattle.std.proofs.lemmas.List.{set_comm}
 use Rattle.std.proofs.lemmas.List.Elements.{All-set}
 use Rattle.ideal_tri.specs.Labels.{inverse, edge_of}
-use Rattle.ideal_tri.specs.Words.{inverse_word}
-use Rattle.ideal_tri.specs.Triangulations.{labels_of, IsLabel, IsWalk, IsReached, IsTriangulation, triangle_of, next, previous}
+use Rattle.ideal_tri.specs.Triangulations.{labels_of, IsLabel, IsWalk, IsReached, IsTriangulation, IsConnected}
+use Rattle.ideal_tri.specs.Triangulations.{triangle_of, next, previous}
 use Rattle.ideal_tri.specs.Flips.{IsFlippable, flipped}
-use Rattle.ideal_tri.specs.FlipLaws.{IsOutside, FlipLaws}
+use Rattle.ideal_tri.specs.FlipLaws.{IsOutside, OneFlipLaws}
 use Rattle.ideal_tri.proofs.Labels.{inverse-inverse, inverse_label, same_or_not}
 use Rattle.ideal_tri.proofs.Triangles.{times, IsOnce-triangulation}
-use Rattle.ideal_tri.proofs.Walks.{walks_join, walk_back}
-use Rattle.ideal_tri.proofs.Flips.{StandsAt, label_stands, Quadrilateral, turned_edge-length, turned_edge-times, turned_edge-first, turned_edge-second, turned_edge-still, turned_edge-stays, six_distinct}
-
--- ---- triangles that a walk joins
-
-record IsJoined (triples : List (List ℤ)) (s t : ℕ) : Type 0 where
-  letters : List ℤ
-  walk : IsWalk triples s letters t
-
-joined_here : (triples : List (List ℤ)) (s t : ℕ) → s ≡ t → IsJoined triples s t
-joined_here triples s t e = record { letters = []; walk = e }
-
-joined_step : (triples : List (List ℤ)) (x : ℤ) → IsLabel triples x → IsJoined triples (triangle_of triples x) (triangle_of triples (inverse x))
-joined_step triples x l = record { letters = x ∷ []; walk = (l, refl, refl) }
-
-joined_along : (triples : List (List ℤ)) (r s t : ℕ) → IsJoined triples r s → IsJoined triples s t → IsJoined triples r t
-joined_along triples r s t u v = record { letters = u.letters ++ v.letters; walk = walks_join triples r s t u.letters v.letters u.walk v.walk }
-
-joined_back : (triples : List (List ℤ)) (s t : ℕ) → IsJoined triples s t → IsJoined triples t s
-joined_back triples s t u = record { letters = inverse_word u.letters; walk = walk_back triples s t u.letters u.walk }
+use Rattle.ideal_tri.proofs.Walks.{reached_here, reached_step, reached_along, reached_back}
+use Rattle.ideal_tri.proofs.Flips.{StandsAt, label_stands, Quadrilateral, turned_edge-length, turned_edge-times}
+use Rattle.ideal_tri.proofs.Flips.{turned_edge-first, turned_edge-second, turned_edge-still, turned_edge-stays}
+use Rattle.ideal_tri.proofs.Flips.{six_distinct}
 
 -- ---- what stands where after the flip
 
@@ -39,7 +31,8 @@ record CanFlip (triples : List (List ℤ)) (e : ℤ) : Type 0 where
   flippable : IsFlippable triples e
 
 quadrilateral_at : (triples : List (List ℤ)) (e : ℤ) → CanFlip triples e
-    → Quadrilateral triples e (next triples e) (previous triples e) (inverse e) (next triples (inverse e)) (previous triples (inverse e)) (triangle_of triples e)
+    → Quadrilateral triples e (next triples e) (previous triples e) (inverse e) (next triples (inverse e))
+    (previous triples (inverse e)) (triangle_of triples e)
     (triangle_of triples (inverse e))
 quadrilateral_at triples e can = record {
   first = label_stands triples can.whole e can.label;
@@ -49,46 +42,61 @@ quadrilateral_at triples e can = record {
 
 flipped-length : (triples : List (List ℤ)) (e : ℤ) → length (flipped triples e) ≡ length triples
 flipped-length triples e =
-    turned_edge-length triples e (next triples e) (previous triples e) (inverse e) (next triples (inverse e)) (previous triples (inverse e))
+    turned_edge-length triples e (next triples e) (previous triples e) (inverse e) (next triples (inverse e))
+    (previous triples (inverse e))
     (triangle_of triples e) (triangle_of triples (inverse e))
 
-flipped-times : (triples : List (List ℤ)) (e : ℤ) → CanFlip triples e → (x : ℤ) → times x (labels_of (flipped triples e)) ≡ times x (labels_of triples)
+flipped-times : (triples : List (List ℤ)) (e : ℤ) → CanFlip triples e → (x : ℤ)
+    → times x (labels_of (flipped triples e)) ≡ times x (labels_of triples)
 flipped-times triples e can x =
-    turned_edge-times triples e (next triples e) (previous triples e) (inverse e) (next triples (inverse e)) (previous triples (inverse e))
+    turned_edge-times triples e (next triples e) (previous triples e) (inverse e) (next triples (inverse e))
+    (previous triples (inverse e))
     (triangle_of triples e) (triangle_of triples (inverse e)) (quadrilateral_at triples e can) x
 
 -- the triangle e, d, a
 flipped-first : (triples : List (List ℤ)) (e : ℤ) → CanFlip triples e
     → StandsAt (flipped triples e) e (previous triples (inverse e)) (next triples e) (triangle_of triples e)
 flipped-first triples e can =
-    turned_edge-first triples e (next triples e) (previous triples e) (inverse e) (next triples (inverse e)) (previous triples (inverse e))
-    (triangle_of triples e) (triangle_of triples (inverse e)) (quadrilateral_at triples e can) (IsOnce-triangulation triples can.whole)
+    turned_edge-first triples e (next triples e) (previous triples e) (inverse e) (next triples (inverse e))
+    (previous triples (inverse e))
+    (triangle_of triples e) (triangle_of triples (inverse e)) (quadrilateral_at triples e can)
+    (IsOnce-triangulation triples can.whole)
 
 -- the triangle inverse e, b, c
 flipped-second : (triples : List (List ℤ)) (e : ℤ) → CanFlip triples e
-    → StandsAt (flipped triples e) (inverse e) (previous triples e) (next triples (inverse e)) (triangle_of triples (inverse e))
+    → StandsAt (flipped triples e) (inverse e) (previous triples e) (next triples (inverse e))
+    (triangle_of triples (inverse e))
 flipped-second triples e can =
-    turned_edge-second triples e (next triples e) (previous triples e) (inverse e) (next triples (inverse e)) (previous triples (inverse e))
-    (triangle_of triples e) (triangle_of triples (inverse e)) (quadrilateral_at triples e can) (IsOnce-triangulation triples can.whole)
+    turned_edge-second triples e (next triples e) (previous triples e) (inverse e) (next triples (inverse e))
+    (previous triples (inverse e))
+    (triangle_of triples e) (triangle_of triples (inverse e)) (quadrilateral_at triples e can)
+    (IsOnce-triangulation triples can.whole)
 
 -- all but b and d keep their triangle
-flipped-stays : (triples : List (List ℤ)) (e : ℤ) → CanFlip triples e → (x : ℤ) → IsLabel triples x → x ≢ previous triples e
+flipped-stays : (triples : List (List ℤ)) (e : ℤ) → CanFlip triples e → (x : ℤ) → IsLabel triples x
+    → x ≢ previous triples e
     → x ≢ previous triples (inverse e) → triangle_of (flipped triples e) x ≡ triangle_of triples x
 flipped-stays triples e can x l =
-    turned_edge-stays triples e (next triples e) (previous triples e) (inverse e) (next triples (inverse e)) (previous triples (inverse e))
-    (triangle_of triples e) (triangle_of triples (inverse e)) (quadrilateral_at triples e can) (IsOnce-triangulation triples can.whole) x (next triples x)
+    turned_edge-stays triples e (next triples e) (previous triples e) (inverse e) (next triples (inverse e))
+    (previous triples (inverse e))
+    (triangle_of triples e) (triangle_of triples (inverse e)) (quadrilateral_at triples e can)
+    (IsOnce-triangulation triples can.whole) x (next triples x)
     (previous triples x) (triangle_of triples x) (label_stands triples can.whole x l)
 
 -- a label that is none of the six sides stands in another triangle, which stays
-flipped-outside : (triples : List (List ℤ)) (e : ℤ) → CanFlip triples e → (x : ℤ) → IsLabel triples x → IsOutside triples e x
+flipped-outside : (triples : List (List ℤ)) (e : ℤ) → CanFlip triples e → (x : ℤ) → IsLabel triples x
+    → IsOutside triples e x
     → StandsAt (flipped triples e) x (next triples x) (previous triples x) (triangle_of triples x)
 flipped-outside triples e can x l out =
-    turned_edge-still triples e (next triples e) (previous triples e) (inverse e) (next triples (inverse e)) (previous triples (inverse e))
-    (triangle_of triples e) (triangle_of triples (inverse e)) sides (IsOnce-triangulation triples can.whole) x (next triples x) (previous triples x)
+    turned_edge-still triples e (next triples e) (previous triples e) (inverse e) (next triples (inverse e))
+    (previous triples (inverse e))
+    (triangle_of triples e) (triangle_of triples (inverse e)) sides (IsOnce-triangulation triples can.whole) x
+    (next triples x) (previous triples x)
     (triangle_of triples x) (λ at. not_first (sides.first.sides.only x here.sides.first.counted at))
     (λ at. not_second (sides.second.sides.only x here.sides.first.counted at)) here
   where
-    sides : Quadrilateral triples e (next triples e) (previous triples e) (inverse e) (next triples (inverse e)) (previous triples (inverse e))
+    sides : Quadrilateral triples e (next triples e) (previous triples e) (inverse e) (next triples (inverse e))
+        (previous triples (inverse e))
         (triangle_of triples e) (triangle_of triples (inverse e))
     sides = quadrilateral_at triples e can
 
@@ -106,14 +114,17 @@ flipped-outside triples e can x l out =
     not_second (inr (inr t)) = out.5 t
 
 -- the flip of the inverse label is the same
-flipped-inverse : (triples : List (List ℤ)) (e : ℤ) → IsFlippable triples e → flipped triples (inverse e) ≡ flipped triples e
+flipped-inverse : (triples : List (List ℤ)) (e : ℤ) → IsFlippable triples e
+    → flipped triples (inverse e) ≡ flipped triples e
 flipped-inverse triples e apart =
     ap
     (λ (z : ℤ).
-    set (set triples (triangle_of triples (inverse e)) (inverse e ∷ (previous triples z ∷ (next triples (inverse e) ∷ [])))) (triangle_of triples z)
+    set (set triples (triangle_of triples (inverse e))
+    (inverse e ∷ (previous triples z ∷ (next triples (inverse e) ∷ [])))) (triangle_of triples z)
     (z ∷ (previous triples (inverse e) ∷ (next triples z ∷ []))))
     (inverse-inverse e)
-    ∙ set_comm triples (triangle_of triples (inverse e)) (triangle_of triples e) (inverse e ∷ (previous triples e ∷ (next triples (inverse e) ∷ [])))
+    ∙ set_comm triples (triangle_of triples (inverse e)) (triangle_of triples e)
+    (inverse e ∷ (previous triples e ∷ (next triples (inverse e) ∷ [])))
     (e ∷ (previous triples (inverse e) ∷ (next triples e ∷ []))) (λ s. apart (sym s))
 
 -- on the once-punctured torus
@@ -128,63 +139,82 @@ label_after : (triples : List (List ℤ)) (e x : ℤ) → IsLabel triples x → 
 label_after triples e x l = subst (λ (n : ℕ). edge_of x < 3 * n / 2) (sym (flipped-length triples e)) l
 
 -- the edge joins its two triangles
-joined_edge : (triples : List (List ℤ)) (e : ℤ) → CanFlip triples e → IsJoined (flipped triples e) (triangle_of triples e) (triangle_of triples (inverse e))
-joined_edge triples e can = record {
+reached_edge : (triples : List (List ℤ)) (e : ℤ) → CanFlip triples e
+    → IsReached (flipped triples e) (triangle_of triples e) (triangle_of triples (inverse e))
+reached_edge triples e can = record {
   letters = e ∷ [];
-  walk = (label_after triples e e can.label, (flipped-first triples e can).sides.first.triangle, (flipped-second triples e can).sides.first.triangle);
+  walk = (
+    label_after triples e e can.label,
+    (flipped-first triples e can).sides.first.triangle,
+    (flipped-second triples e can).sides.first.triangle,
+  );
 }
 
 -- from the triangle of a label before the flip to that after it
-joined_moved : (triples : List (List ℤ)) (e : ℤ) → CanFlip triples e → (x : ℤ) → IsLabel triples x
-    → IsJoined (flipped triples e) (triangle_of triples x) (triangle_of (flipped triples e) x)
-joined_moved triples e can x l =
+reached_moved : (triples : List (List ℤ)) (e : ℤ) → CanFlip triples e → (x : ℤ) → IsLabel triples x
+    → IsReached (flipped triples e) (triangle_of triples x) (triangle_of (flipped triples e) x)
+reached_moved triples e can x l =
     elim (same_or_not x (previous triples e)) [
       | inl b ↦
           moved (triangle_of triples e) (triangle_of triples (inverse e))
           (ap (triangle_of triples) b ∙ (quadrilateral_at triples e can).first.sides.third.triangle)
-          (ap (triangle_of (flipped triples e)) b ∙ (flipped-second triples e can).sides.second.triangle) (joined_edge triples e can)
+          (ap (triangle_of (flipped triples e)) b ∙ (flipped-second triples e can).sides.second.triangle)
+          (reached_edge triples e can)
       | inr not_b ↦
           elim (same_or_not x (previous triples (inverse e))) [
             | inl d ↦
                 moved (triangle_of triples (inverse e)) (triangle_of triples e)
                 (ap (triangle_of triples) d ∙ (quadrilateral_at triples e can).second.sides.third.triangle)
                 (ap (triangle_of (flipped triples e)) d ∙ (flipped-first triples e can).sides.second.triangle)
-                (joined_back (flipped triples e) (triangle_of triples e) (triangle_of triples (inverse e)) (joined_edge triples e can))
+                (reached_back (flipped triples e) (triangle_of triples e) (triangle_of triples (inverse e))
+                (reached_edge triples e can))
             | inr not_d ↦
-                joined_here (flipped triples e) (triangle_of triples x) (triangle_of (flipped triples e) x)
+                reached_here (flipped triples e) (triangle_of triples x) (triangle_of (flipped triples e) x)
                 (sym (flipped-stays triples e can x l not_b not_d))
           ]
     ]
   where
-    moved : (s t : ℕ) → triangle_of triples x ≡ s → triangle_of (flipped triples e) x ≡ t → IsJoined (flipped triples e) s t
-        → IsJoined (flipped triples e) (triangle_of triples x) (triangle_of (flipped triples e) x)
+    moved : (s t : ℕ) → triangle_of triples x ≡ s → triangle_of (flipped triples e) x ≡ t
+        → IsReached (flipped triples e) s t
+        → IsReached (flipped triples e) (triangle_of triples x) (triangle_of (flipped triples e) x)
     moved s t before after joined =
-        subst (λ (k : ℕ). IsJoined (flipped triples e) k (triangle_of (flipped triples e) x)) (sym before)
-        (subst (IsJoined (flipped triples e) s) (sym after) joined)
+        subst (λ (k : ℕ). IsReached (flipped triples e) k (triangle_of (flipped triples e) x)) (sym before)
+        (subst (IsReached (flipped triples e) s) (sym after) joined)
 
 -- neighbours stay joined
-joined_across : (triples : List (List ℤ)) (e : ℤ) → CanFlip triples e → (x : ℤ) → IsLabel triples x
-    → IsJoined (flipped triples e) (triangle_of triples x) (triangle_of triples (inverse x))
-joined_across triples e can x l =
-    joined_along (flipped triples e) (triangle_of triples x) (triangle_of (flipped triples e) x) (triangle_of triples (inverse x))
-    (joined_moved triples e can x l)
-    (joined_along (flipped triples e) (triangle_of (flipped triples e) x) (triangle_of (flipped triples e) (inverse x)) (triangle_of triples (inverse x))
-    (joined_step (flipped triples e) x (label_after triples e x l))
-    (joined_back (flipped triples e) (triangle_of triples (inverse x)) (triangle_of (flipped triples e) (inverse x))
-    (joined_moved triples e can (inverse x) (inverse_label triples x l))))
+reached_across : (triples : List (List ℤ)) (e : ℤ) → CanFlip triples e → (x : ℤ) → IsLabel triples x
+    → IsReached (flipped triples e) (triangle_of triples x) (triangle_of triples (inverse x))
+reached_across triples e can x l =
+    reached_along (flipped triples e) (triangle_of triples x) (triangle_of (flipped triples e) x)
+    (triangle_of triples (inverse x))
+    (reached_moved triples e can x l)
+    (reached_along (flipped triples e) (triangle_of (flipped triples e) x) (triangle_of (flipped triples e) (inverse x))
+    (triangle_of triples (inverse x))
+    (reached_step (flipped triples e) x (label_after triples e x l))
+    (reached_back (flipped triples e) (triangle_of triples (inverse x)) (triangle_of (flipped triples e) (inverse x))
+    (reached_moved triples e can (inverse x) (inverse_label triples x l))))
 
 -- so the ends of a walk stay joined
-joined_walk : (triples : List (List ℤ)) (e : ℤ) → CanFlip triples e → (s t : ℕ) (w : List ℤ) → IsWalk triples s w t → IsJoined (flipped triples e) s t
-joined_walk triples e can s t [] walk = joined_here (flipped triples e) s t walk
-joined_walk triples e can s t (x ∷ w) walk =
-    joined_along (flipped triples e) s (triangle_of triples (inverse x)) t
-    (subst (λ (k : ℕ). IsJoined (flipped triples e) k (triangle_of triples (inverse x))) walk.1 (joined_across triples e can x walk.0))
-    (joined_walk triples e can (triangle_of triples (inverse x)) t w walk.2)
+reached_walk : (triples : List (List ℤ)) (e : ℤ) → CanFlip triples e → (s t : ℕ) (w : List ℤ) → IsWalk triples s w t
+    → IsReached (flipped triples e) s t
+reached_walk triples e can s t [] walk = reached_here (flipped triples e) s t walk
+reached_walk triples e can s t (x ∷ w) walk =
+    reached_along (flipped triples e) s (triangle_of triples (inverse x)) t
+    (subst (λ (k : ℕ). IsReached (flipped triples e) k (triangle_of triples (inverse x))) walk.1
+    (reached_across triples e can x walk.0))
+    (reached_walk triples e can (triangle_of triples (inverse x)) t w walk.2)
 
-reached_after : (triples : List (List ℤ)) (e : ℤ) → CanFlip triples e → (t : ℕ) → IsReached triples t → IsReached (flipped triples e) t
-reached_after triples e can t r =
-    let joined = joined_walk triples e can 0 t r.letters r.walk in
-    record { letters = joined.letters; walk = joined.walk }
+reached_after : (triples : List (List ℤ)) (e : ℤ) → CanFlip triples e → (s t : ℕ) → IsReached triples s t
+    → IsReached (flipped triples e) s t
+reached_after triples e can s t r = reached_walk triples e can s t r.letters r.walk
+
+connected_after : (triples : List (List ℤ)) (e : ℤ) → CanFlip triples e → IsConnected triples
+    → IsConnected (flipped triples e)
+connected_after triples e can h = record {
+  reached =
+      λ t below. reached_after triples e can 0 t
+      (h.reached t (subst (λ (n : ℕ). t < n) (flipped-length triples e) below));
+}
 
 -- ---- the laws
 
@@ -193,24 +223,28 @@ flipped-triangulation triples e can = record {
   some = subst (λ (n : ℕ). 0 < n) (sym (flipped-length triples e)) can.whole.some;
   three_sides =
       All-set (λ t. length t ≡ 3)
-      (set triples (triangle_of triples e) (e ∷ (previous triples (inverse e) ∷ (next triples e ∷ [])))) (triangle_of triples (inverse e))
+      (set triples (triangle_of triples e) (e ∷ (previous triples (inverse e) ∷ (next triples e ∷ []))))
+      (triangle_of triples (inverse e))
       (inverse e ∷ (previous triples e ∷ (next triples (inverse e) ∷ []))) refl
-      (All-set (λ t. length t ≡ 3) triples (triangle_of triples e) (e ∷ (previous triples (inverse e) ∷ (next triples e ∷ []))) refl
+      (All-set (λ t. length t ≡ 3) triples (triangle_of triples e)
+      (e ∷ (previous triples (inverse e) ∷ (next triples e ∷ []))) refl
       can.whole.three_sides);
   edges = subst (λ (n : ℕ). 2 * (3 * n / 2) ≡ 3 * n) (sym (flipped-length triples e)) can.whole.edges;
   labels = λ x.
       flipped-times triples e can x ∙ can.whole.labels x
       ∙ ap (λ (n : ℕ). cond (nat_lt (edge_of x) (3 * n / 2)) 1 0) (sym (flipped-length triples e));
-  connected = λ t below. reached_after triples e can t (can.whole.connected t (subst (λ (n : ℕ). t < n) (flipped-length triples e) below));
 }
 
-laws_of : (triples : List (List ℤ)) (e : ℤ) → CanFlip triples e → FlipLaws triples e
+laws_of : (triples : List (List ℤ)) (e : ℤ) → CanFlip triples e → OneFlipLaws triples e
 laws_of triples e can = record {
   triangulation = flipped-triangulation triples e can;
   edges = ap (λ (n : ℕ). 3 * n / 2) (flipped-length triples e);
+  reached = reached_after triples e can;
+  connected = connected_after triples e can;
   other_side = flipped-inverse triples e can.flippable;
   different =
-      six_distinct triples e (next triples e) (previous triples e) (inverse e) (next triples (inverse e)) (previous triples (inverse e))
+      six_distinct triples e (next triples e) (previous triples e) (inverse e) (next triples (inverse e))
+      (previous triples (inverse e))
       (triangle_of triples e) (triangle_of triples (inverse e)) (quadrilateral_at triples e can);
   after_e = (flipped-first triples e can).sides.first.after;
   after_d = (flipped-first triples e can).sides.second.after;
@@ -224,5 +258,7 @@ laws_of triples e can = record {
   stays = flipped-stays triples e can;
 }
 
-pub flip_laws : (triples : List (List ℤ)) (e : ℤ) → IsTriangulation triples → IsLabel triples e → IsFlippable triples e → FlipLaws triples e
-flip_laws triples e whole label flippable = laws_of triples e (record { whole = whole; label = label; flippable = flippable })
+pub flip_laws : (triples : List (List ℤ)) (e : ℤ) → IsTriangulation triples → IsLabel triples e → IsFlippable triples e
+    → OneFlipLaws triples e
+flip_laws triples e whole label flippable =
+    laws_of triples e (record { whole = whole; label = label; flippable = flippable })

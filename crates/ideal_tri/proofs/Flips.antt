@@ -1,5 +1,12 @@
 -- Which label stands where before and after the flip of an edge.
-use Rattle.std.proofs.Common.{ℕ, zero, suc, ℤ, pos, List, [], ◌∷◌, ◌≡◌, ◌≢◌, ◌≤◌, ◌<◌, ◌+◌, ◌⊎◌, inl, inr, cond, refl, sym, ◌∙◌, ap, subst, arith, length, get_or, set}
+--
+-- Two different triangles i and j have the sides e, a, b and f, c, d. Their triples, begun at any of the three sides,
+-- are replaced by e, d, a and f, b, c; nothing else changes. As multisets the six labels are the same, so no label
+-- stands more often than before, and a label that stood once stands once. So the new triple at a place gives the
+-- triangle of its labels and the side after each. The six labels are different: those of one triangle, since it has
+-- three sides, and those of two triangles, since a label stands in one triangle only.
+use Rattle.std.proofs.Common.{ℕ, zero, suc, ℤ, pos, List, [], ◌∷◌, ◌≡◌, ◌≢◌, ◌≤◌, ◌<◌, ◌+◌, ◌⊎◌, inl, inr, cond, refl}
+use Rattle.std.proofs.Common.{sym, ◌∙◌, ap, subst, arith, length, get_or, set}
 use Rattle.std.specs.List.{All, sum_by}
 use Rattle.std.specs.Ordering.{int_eq}
 use Rattle.std.proofs.lemmas.Bool.{cases_eq}
@@ -8,7 +15,9 @@ use Rattle.std.proofs.lemmas.List.Elements.{All-nil, All-cons}
 use Rattle.std.proofs.lemmas.List.Sums.{sum_by-cons, sum_by-set}
 use Rattle.ideal_tri.specs.Triangulations.{labels_of, IsLabel, IsTriangulation, triangle_of, next, previous}
 use Rattle.ideal_tri.specs.Refusals.{IsDistinct}
-use Rattle.ideal_tri.proofs.Triangles.{times, times-cons, times-append, IsOnce, IsOnce-tail, IsOnce-triangulation, Triangle, turned, first_triangle, later_triangle, triangle_at, counted_once, previous-is}
+use Rattle.ideal_tri.proofs.Triangles.{times, times-cons, times-append, IsOnce, IsOnce-triangulation, Triangle, turned}
+use Rattle.ideal_tri.proofs.Triangles.{triangle_at, counted_once, previous-is}
+use Rattle.ideal_tri.proofs.Triples.{three_listed, triangle_at_place}
 
 -- ---- the triple at a place
 
@@ -21,16 +30,9 @@ pub record StandsAt (triples : List (List ℤ)) (x y z : ℤ) (n : ℕ) : Type 0
   pub sides : Triangle triples x y z n
   pub is : IsTurned (get_or triples n []) x y z
 
-triangle_at_place : (triples : List (List ℤ)) (n : ℕ) (a b c : ℤ) → IsOnce triples → n < length triples
-    → get_or triples n [] ≡ a ∷ (b ∷ (c ∷ [])) → Triangle triples a b c n
-triangle_at_place [] n a b c h l e = absurd (omega arith)
-triangle_at_place (t ∷ rest) zero a b c h l e =
-    subst (λ (u : List ℤ). Triangle (u ∷ rest) a b c 0) (sym e) (first_triangle a b c rest (subst (λ (u : List ℤ). IsOnce (u ∷ rest)) e h))
-triangle_at_place (t ∷ rest) (suc n) a b c h l e =
-    later_triangle t rest a b c n h (triangle_at_place rest n a b c (IsOnce-tail t rest h) (omega arith) e)
-
 -- the triple at a place gives the triangle
-pub stands_at : (triples : List (List ℤ)) (x y z : ℤ) (n : ℕ) → IsOnce triples → n < length triples → get_or triples n [] ≡ x ∷ (y ∷ (z ∷ []))
+pub stands_at : (triples : List (List ℤ)) (x y z : ℤ) (n : ℕ) → IsOnce triples → n < length triples
+    → get_or triples n [] ≡ x ∷ (y ∷ (z ∷ []))
     → StandsAt triples x y z n
 stands_at triples x y z n h l e = record { sides = triangle_at_place triples n x y z h l e; is = inl e }
 
@@ -53,29 +55,20 @@ stands_still triples others x y z n h l same s = go s.is
         stands_turned others z x y n (stands_turned others y z x n (stands_at others y z x n h l (same ∙ e)))
     go (inr (inr e)) = stands_turned others z x y n (stands_at others z x y n h l (same ∙ e))
 
--- a list of length 3
-record IsOfThree (t : List ℤ) : Type 0 where
-  a : ℤ
-  b : ℤ
-  c : ℤ
-  is : t ≡ a ∷ (b ∷ (c ∷ []))
-
-of_three : (t : List ℤ) → length t ≡ 3 → IsOfThree t
-of_three [] l = absurd (omega arith)
-of_three (a ∷ []) l = absurd (omega arith)
-of_three (a ∷ (b ∷ [])) l = absurd (omega arith)
-of_three (a ∷ (b ∷ (c ∷ []))) l = record { a = a; b = b; c = c; is = refl }
-of_three (a ∷ (b ∷ (c ∷ (d ∷ more)))) l = absurd (omega arith)
-
 -- each label of a triangulation stands in the triple of its triangle
 pub label_stands : (triples : List (List ℤ)) → IsTriangulation triples → (x : ℤ) → IsLabel triples x
     → StandsAt triples x (next triples x) (previous triples x) (triangle_of triples x)
 label_stands triples h x l =
     let g = triangle_at triples h x l in
-    let below : triangle_of triples x < length triples = subst (λ (k : ℕ). k < length triples) (sym g.sides.first.triangle) g.sides.below in
-    go below (of_three (get_or triples (triangle_of triples x) []) (h.three_sides (triangle_of triples x) [] below))
+    let below : triangle_of triples x < length triples =
+    subst (λ (k : ℕ). k < length triples) (sym g.sides.first.triangle) g.sides.below in
+    let (a, b, c, is) =
+    three_listed (get_or triples (triangle_of triples x) []) (h.three_sides (triangle_of triples x) [] below) in
+    let s = stands_at triples a b c (triangle_of triples x) (IsOnce-triangulation triples h) below is in
+    found a b c s (s.sides.only x (omega (arith, counted_once triples h x l)) refl)
   where
-    named : (y z : ℤ) → StandsAt triples x y z (triangle_of triples x) → StandsAt triples x (next triples x) (previous triples x) (triangle_of triples x)
+    named : (y z : ℤ) → StandsAt triples x y z (triangle_of triples x)
+        → StandsAt triples x (next triples x) (previous triples x) (triangle_of triples x)
     named y z s =
         subst (λ (v : ℤ). StandsAt triples x v (previous triples x) (triangle_of triples x)) (sym s.sides.first.after)
         (subst (λ (w : ℤ). StandsAt triples x y w (triangle_of triples x))
@@ -86,24 +79,21 @@ label_stands triples h x l =
     found a b c s (inl e) = named b c (subst (λ (u : ℤ). StandsAt triples u b c (triangle_of triples x)) (sym e) s)
     found a b c s (inr (inl e)) =
         named c a
-        (subst (λ (u : ℤ). StandsAt triples u c a (triangle_of triples x)) (sym e) (stands_turned triples a b c (triangle_of triples x) s))
+        (subst (λ (u : ℤ). StandsAt triples u c a (triangle_of triples x)) (sym e)
+        (stands_turned triples a b c (triangle_of triples x) s))
     found a b c s (inr (inr e)) =
         named a b
         (subst (λ (u : ℤ). StandsAt triples u a b (triangle_of triples x)) (sym e)
         (stands_turned triples b c a (triangle_of triples x) (stands_turned triples a b c (triangle_of triples x) s)))
-
-    go : triangle_of triples x < length triples → IsOfThree (get_or triples (triangle_of triples x) [])
-        → StandsAt triples x (next triples x) (previous triples x) (triangle_of triples x)
-    go below t =
-        let s = stands_at triples t.a t.b t.c (triangle_of triples x) (IsOnce-triangulation triples h) below t.is in
-        found t.a t.b t.c s (s.sides.only x (omega (arith, counted_once triples h x l)) refl)
 
 -- ---- how often a label stands in triples
 
 times_labels : (x : ℤ) (triples : List (List ℤ)) → times x (labels_of triples) ≡ sum_by (times x) triples
 times_labels x [] = refl
 times_labels x (t ∷ rest) =
-    times-append x t (labels_of rest) ∙ ap (λ (k : ℕ). times x t + k) (times_labels x rest) ∙ sym (sum_by-cons (times x) t rest)
+    times-append x t (labels_of rest)
+    ∙ ap (λ (k : ℕ). times x t + k) (times_labels x rest)
+    ∙ sym (sum_by-cons (times x) t rest)
 
 -- how often x stands in one place that holds y
 abbrev once_at : ℤ → ℤ → ℕ
@@ -129,7 +119,8 @@ pub record Quadrilateral (triples : List (List ℤ)) (e a b f c d : ℤ) (i j : 
 abbrev pub turned_edge : List (List ℤ) → ℤ → ℤ → ℤ → ℤ → ℤ → ℤ → ℕ → ℕ → List (List ℤ)
 turned_edge triples e a b f c d i j = set (set triples i (e ∷ (d ∷ (a ∷ [])))) j (f ∷ (b ∷ (c ∷ [])))
 
-pub turned_edge-length : (triples : List (List ℤ)) (e a b f c d : ℤ) (i j : ℕ) → length (turned_edge triples e a b f c d i j) ≡ length triples
+pub turned_edge-length : (triples : List (List ℤ)) (e a b f c d : ℤ) (i j : ℕ)
+    → length (turned_edge triples e a b f c d i j) ≡ length triples
 turned_edge-length triples e a b f c d i j =
     length-set (set triples i (e ∷ (d ∷ (a ∷ [])))) j (f ∷ (b ∷ (c ∷ []))) ∙ length-set triples i (e ∷ (d ∷ (a ∷ [])))
 
@@ -176,14 +167,16 @@ turned_edge-times triples e a b f c d i j q x =
     same : sum_by (times x) (turned_edge triples e a b f c d i j) ≡ sum_by (times x) triples
     same = omega (arith, one, two)
 
-pub turned_edge-once : (triples : List (List ℤ)) (e a b f c d : ℤ) (i j : ℕ) → Quadrilateral triples e a b f c d i j → IsOnce triples
+pub turned_edge-once : (triples : List (List ℤ)) (e a b f c d : ℤ) (i j : ℕ) → Quadrilateral triples e a b f c d i j
+    → IsOnce triples
     → IsOnce (turned_edge triples e a b f c d i j)
 turned_edge-once triples e a b f c d i j q h = record {
   once = λ x. subst (λ (k : ℕ). k ≤ 1) (sym (turned_edge-times triples e a b f c d i j q x)) (h.once x);
 }
 
 -- the two new triangles
-pub turned_edge-first : (triples : List (List ℤ)) (e a b f c d : ℤ) (i j : ℕ) → Quadrilateral triples e a b f c d i j → IsOnce triples
+pub turned_edge-first : (triples : List (List ℤ)) (e a b f c d : ℤ) (i j : ℕ) → Quadrilateral triples e a b f c d i j
+    → IsOnce triples
     → StandsAt (turned_edge triples e a b f c d i j) e d a i
 turned_edge-first triples e a b f c d i j q h =
     stands_at (turned_edge triples e a b f c d i j) e d a i (turned_edge-once triples e a b f c d i j q h)
@@ -191,7 +184,8 @@ turned_edge-first triples e a b f c d i j q h =
     (get_or-set_other (set triples i (e ∷ (d ∷ (a ∷ [])))) j i (f ∷ (b ∷ (c ∷ []))) [] q.apart
     ∙ get_or-set_same triples i (e ∷ (d ∷ (a ∷ []))) [] q.first.sides.below)
 
-pub turned_edge-second : (triples : List (List ℤ)) (e a b f c d : ℤ) (i j : ℕ) → Quadrilateral triples e a b f c d i j → IsOnce triples
+pub turned_edge-second : (triples : List (List ℤ)) (e a b f c d : ℤ) (i j : ℕ) → Quadrilateral triples e a b f c d i j
+    → IsOnce triples
     → StandsAt (turned_edge triples e a b f c d i j) f b c j
 turned_edge-second triples e a b f c d i j q h =
     stands_at (turned_edge triples e a b f c d i j) f b c j (turned_edge-once triples e a b f c d i j q h)
@@ -200,15 +194,20 @@ turned_edge-second triples e a b f c d i j q h =
     (omega (arith, length-set triples i (e ∷ (d ∷ (a ∷ []))), q.second.sides.below)))
 
 -- the labels of the other triangles stay where they are
-pub turned_edge-still : (triples : List (List ℤ)) (e a b f c d : ℤ) (i j : ℕ) → Quadrilateral triples e a b f c d i j → IsOnce triples
-    → (x y z : ℤ) (k : ℕ) → k ≢ i → k ≢ j → StandsAt triples x y z k → StandsAt (turned_edge triples e a b f c d i j) x y z k
+pub turned_edge-still : (triples : List (List ℤ)) (e a b f c d : ℤ) (i j : ℕ) → Quadrilateral triples e a b f c d i j
+    → IsOnce triples
+    → (x y z : ℤ) (k : ℕ) → k ≢ i → k ≢ j → StandsAt triples x y z k
+    → StandsAt (turned_edge triples e a b f c d i j) x y z k
 turned_edge-still triples e a b f c d i j q h x y z k ki kj s =
     stands_still triples (turned_edge triples e a b f c d i j) x y z k (turned_edge-once triples e a b f c d i j q h)
-    (omega (arith, turned_edge-length triples e a b f c d i j, s.sides.below)) (turned_edge-other triples e a b f c d i j k ki kj) s
+    (omega (arith, turned_edge-length triples e a b f c d i j, s.sides.below))
+    (turned_edge-other triples e a b f c d i j k ki kj) s
 
 -- all but b and d keep their triangle
-pub turned_edge-stays : (triples : List (List ℤ)) (e a b f c d : ℤ) (i j : ℕ) → Quadrilateral triples e a b f c d i j → IsOnce triples
-    → (x y z : ℤ) (k : ℕ) → StandsAt triples x y z k → x ≢ b → x ≢ d → triangle_of (turned_edge triples e a b f c d i j) x ≡ k
+pub turned_edge-stays : (triples : List (List ℤ)) (e a b f c d : ℤ) (i j : ℕ) → Quadrilateral triples e a b f c d i j
+    → IsOnce triples
+    → (x y z : ℤ) (k : ℕ) → StandsAt triples x y z k → x ≢ b → x ≢ d
+    → triangle_of (turned_edge triples e a b f c d i j) x ≡ k
 turned_edge-stays triples e a b f c d i j q h x y z k s nb nd =
     elim (cases_eq k i) [
       | inl ki ↦ in_first ki (q.first.sides.only x s.sides.first.counted (s.sides.first.triangle ∙ ki))
@@ -216,23 +215,32 @@ turned_edge-stays triples e a b f c d i j q h x y z k s nb nd =
           elim (cases_eq k j) [
             | inl kj ↦ in_second kj (q.second.sides.only x s.sides.first.counted (s.sides.first.triangle ∙ kj))
             | inr kj ↦
-                (let now : StandsAt (turned_edge triples e a b f c d i j) x y z k = turned_edge-still triples e a b f c d i j q h x y z k ki kj s in
+                (let now : StandsAt (turned_edge triples e a b f c d i j) x y z k =
+                turned_edge-still triples e a b f c d i j q h x y z k ki kj s in
                 now.sides.first.triangle)
           ]
     ]
   where
     in_first : k ≡ i → (x ≡ e) ⊎ ((x ≡ a) ⊎ (x ≡ b)) → triangle_of (turned_edge triples e a b f c d i j) x ≡ k
     in_first ki (inl xe) =
-        ap (triangle_of (turned_edge triples e a b f c d i j)) xe ∙ (turned_edge-first triples e a b f c d i j q h).sides.first.triangle ∙ sym ki
+        ap (triangle_of (turned_edge triples e a b f c d i j)) xe
+        ∙ (turned_edge-first triples e a b f c d i j q h).sides.first.triangle
+        ∙ sym ki
     in_first ki (inr (inl xa)) =
-        ap (triangle_of (turned_edge triples e a b f c d i j)) xa ∙ (turned_edge-first triples e a b f c d i j q h).sides.third.triangle ∙ sym ki
+        ap (triangle_of (turned_edge triples e a b f c d i j)) xa
+        ∙ (turned_edge-first triples e a b f c d i j q h).sides.third.triangle
+        ∙ sym ki
     in_first ki (inr (inr xb)) = absurd (nb xb)
 
     in_second : k ≡ j → (x ≡ f) ⊎ ((x ≡ c) ⊎ (x ≡ d)) → triangle_of (turned_edge triples e a b f c d i j) x ≡ k
     in_second kj (inl xf) =
-        ap (triangle_of (turned_edge triples e a b f c d i j)) xf ∙ (turned_edge-second triples e a b f c d i j q h).sides.first.triangle ∙ sym kj
+        ap (triangle_of (turned_edge triples e a b f c d i j)) xf
+        ∙ (turned_edge-second triples e a b f c d i j q h).sides.first.triangle
+        ∙ sym kj
     in_second kj (inr (inl xc)) =
-        ap (triangle_of (turned_edge triples e a b f c d i j)) xc ∙ (turned_edge-second triples e a b f c d i j q h).sides.third.triangle ∙ sym kj
+        ap (triangle_of (turned_edge triples e a b f c d i j)) xc
+        ∙ (turned_edge-second triples e a b f c d i j q h).sides.third.triangle
+        ∙ sym kj
     in_second kj (inr (inr xd)) = absurd (nd xd)
 
 -- ---- the six sides
@@ -247,7 +255,8 @@ distinct_cons x xs h k (suc i) zero l m = absurd (omega arith)
 distinct_cons x xs h k (suc i) (suc j) l m = k i j (omega arith) (omega arith)
 
 -- labels of two triangles differ
-differ : (triples : List (List ℤ)) (i j : ℕ) → i ≢ j → (x y : ℤ) → triangle_of triples x ≡ i → triangle_of triples y ≡ j → x ≢ y
+differ : (triples : List (List ℤ)) (i j : ℕ) → i ≢ j → (x y : ℤ) → triangle_of triples x ≡ i → triangle_of triples y ≡ j
+    → x ≢ y
 differ triples i j apart x y at_i at_j e = apart (sym at_i ∙ ap (triangle_of triples) e ∙ at_j)
 
 -- the six sides are different labels
@@ -256,7 +265,8 @@ pub six_distinct : (triples : List (List ℤ)) (e a b f c d : ℤ) (i j : ℕ) �
 six_distinct triples e a b f c d i j q =
     distinct_cons e (a ∷ (b ∷ (f ∷ (c ∷ (d ∷ [])))))
     (All-cons (λ y. e ≢ y) a (b ∷ (f ∷ (c ∷ (d ∷ [])))) q.first.sides.first_second
-    (All-cons (λ y. e ≢ y) b (f ∷ (c ∷ (d ∷ []))) (λ s. q.first.sides.third_first (sym s)) (across e q.first.sides.first.triangle)))
+    (All-cons (λ y. e ≢ y) b (f ∷ (c ∷ (d ∷ []))) (λ s. q.first.sides.third_first (sym s))
+    (across e q.first.sides.first.triangle)))
     (distinct_cons a (b ∷ (f ∷ (c ∷ (d ∷ []))))
     (All-cons (λ y. a ≢ y) b (f ∷ (c ∷ (d ∷ []))) q.first.sides.second_third (across a q.first.sides.second.triangle))
     (distinct_cons b (f ∷ (c ∷ (d ∷ []))) (across b q.first.sides.third.triangle)
@@ -270,4 +280,5 @@ six_distinct triples e a b f c d i j q =
     across x at =
         All-cons (λ y. x ≢ y) f (c ∷ (d ∷ [])) (differ triples i j q.apart x f at q.second.sides.first.triangle)
         (All-cons (λ y. x ≢ y) c (d ∷ []) (differ triples i j q.apart x c at q.second.sides.second.triangle)
-        (All-cons (λ y. x ≢ y) d [] (differ triples i j q.apart x d at q.second.sides.third.triangle) (All-nil (λ y. x ≢ y))))
+        (All-cons (λ y. x ≢ y) d [] (differ triples i j q.apart x d at q.second.sides.third.triangle)
+        (All-nil (λ y. x ≢ y))))

@@ -1,11 +1,22 @@
 -- The free reduction of a word: it is reduced, unchanged by deletions, and goes with `++` and inverses.
-use Rattle.std.proofs.Common.{ℤ, Bool, cond, List, [], ◌∷◌, ◌++◌, ◌≡◌, ◌≢◌, inl, inr, refl, sym, ◌∙◌, ap, subst, append_assoc, arith, length, length-append}
+--
+-- A letter acts on reduced words: it is put in front, or takes away the inverse that stands there. A letter and its
+-- inverse undo each other, so words act as a group would, and the reduction of u is what u makes of the empty word. A
+-- word acts as its reduction does. From this follow all equations: the reduction of u v is that of the two reductions,
+-- u and its way back cancel, and what two words share at their start or end may be taken off.
+--
+-- A deletion takes out a pair that acts as nothing, so it leaves the reduction alone. Deletions lead from w to its
+-- reduction, pair by pair as the letters are put in front. A reduced word is its own reduction, so no other is
+-- reached.
+use Rattle.std.proofs.Common.{ℤ, Bool, cond, List, [], ◌∷◌, ◌++◌, ◌≡◌, ◌≢◌, inl, inr, refl, sym, ◌∙◌, ap, subst}
+use Rattle.std.proofs.Common.{append_assoc, arith, length, length-append}
 use Rattle.std.specs.List.{All}
 use Rattle.std.proofs.lemmas.List.{append-nil}
-use Rattle.std.proofs.lemmas.List.Elements.{All-cons, All-head, All-tail}
+use Rattle.std.proofs.lemmas.List.Elements.{All-nil, All-cons, All-head, All-tail, All-append}
 use Rattle.ideal_tri.specs.Labels.{inverse}
+use Rattle.ideal_tri.specs.Triangulations.{IsLabel}
 use Rattle.ideal_tri.specs.Words.{inverse_word, IsReduced, push, act, reduce, Deletes, DeletesAll, pair, done, more}
-use Rattle.ideal_tri.proofs.Labels.{inverse-inverse, same_or_not, int_eq-same, int_eq-other}
+use Rattle.ideal_tri.proofs.Labels.{inverse-inverse, inverse_label, same_or_not, int_eq-same, int_eq-other}
 
 -- ---- parts of reduced words
 
@@ -23,13 +34,15 @@ IsReduced-back [] v h = h
 IsReduced-back (x ∷ u) v h = IsReduced-back u v (IsReduced-tail x (u ++ v) h)
 
 -- two reduced words joined at a letter x, the last of the first and the first of the second
-pub IsReduced-glue : (u : List ℤ) (x : ℤ) (v : List ℤ) → IsReduced (u ++ (x ∷ [])) → IsReduced (x ∷ v) → IsReduced (u ++ (x ∷ v))
+pub IsReduced-glue : (u : List ℤ) (x : ℤ) (v : List ℤ) → IsReduced (u ++ (x ∷ [])) → IsReduced (x ∷ v)
+    → IsReduced (u ++ (x ∷ v))
 IsReduced-glue [] x v h k = k
 IsReduced-glue (y ∷ []) x v h k = (h.0, k)
 IsReduced-glue (y ∷ (z ∷ u)) x v h k = (h.0, IsReduced-glue (z ∷ u) x v h.1 k)
 
 -- a letter may follow a reduced word whose last letter is not its inverse
-pub IsReduced-append_letter : (u : List ℤ) (y z : ℤ) → IsReduced (u ++ (y ∷ [])) → z ≢ inverse y → IsReduced (u ++ (y ∷ (z ∷ [])))
+pub IsReduced-append_letter : (u : List ℤ) (y z : ℤ) → IsReduced (u ++ (y ∷ [])) → z ≢ inverse y
+    → IsReduced (u ++ (y ∷ (z ∷ [])))
 IsReduced-append_letter u y z h n = IsReduced-glue u y (z ∷ []) h (n, tt)
 
 -- ---- a letter in front
@@ -150,6 +163,16 @@ inverse_word-inverse_word (x ∷ w) =
 pub length-inverse_word : (w : List ℤ) → length (inverse_word w) ≡ length w
 length-inverse_word [] = refl
 length-inverse_word (x ∷ w) = omega (arith, length-append (inverse_word w) (inverse x ∷ []), length-inverse_word w)
+
+-- the letters of the way back are labels
+pub All-inverse_word : (triples : List (List ℤ)) (w : List ℤ) → All (IsLabel triples) w
+    → All (IsLabel triples) (inverse_word w)
+All-inverse_word triples [] h = h
+All-inverse_word triples (x ∷ w) h =
+    All-append (IsLabel triples) (inverse_word w) (inverse x ∷ [])
+    (All-inverse_word triples w (All-tail (IsLabel triples) x w h))
+    (All-cons (IsLabel triples) (inverse x) [] (inverse_label triples x (All-head (IsLabel triples) x w h))
+    (All-nil (IsLabel triples)))
 
 pub IsReduced-inverse_word : (w : List ℤ) → IsReduced w → IsReduced (inverse_word w)
 IsReduced-inverse_word [] h = tt

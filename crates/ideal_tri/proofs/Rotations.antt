@@ -1,5 +1,12 @@
 -- Rotations of lists, the test that finds them, and closed words up to rotation and direction.
-use Rattle.std.proofs.Common.{ℕ, ℤ, Bool, true, false, List, [], ◌∷◌, ◌++◌, ◌||◌, ◌≡◌, ◌⊎◌, ◌↔◌, ◌+◌, inl, inr, refl, sym, ◌∙◌, ap, subst, append_assoc, arith, length, length-append, cond, map}
+--
+-- A rotation is some number of steps in which the first element goes to the end. So what a step keeps, a rotation
+-- keeps, and rotations are closed under composition; the steps that are left lead back. The test tries all splits of
+-- the list, from the first place on, and finds v exactly where some split gives v. Two words run along one curve where
+-- one is a rotation of the other or of its way back. The way back of a rotation is a rotation of the way back, so this
+-- is an equivalence too, and counts of letters that don't see the direction are the same for words of one curve.
+use Rattle.std.proofs.Common.{ℕ, ℤ, Bool, true, false, List, [], ◌∷◌, ◌++◌, ◌||◌, ◌≡◌, ◌⊎◌, ◌↔◌, ◌+◌, inl, inr, refl}
+use Rattle.std.proofs.Common.{sym, ◌∙◌, ap, subst, append_assoc, arith, length, length-append, cond, map}
 use Rattle.std.specs.Cmp.Rules.{signed_items}
 use Rattle.std.specs.List.{All, count_by}
 use Rattle.std.proofs.lemmas.List.{append-nil, map-append}
@@ -75,7 +82,8 @@ Rotation-map f u v (a, b, e, g) = (
 -- what holds of each element of a list holds of each element of its rotations
 pub Rotation-keeps : {A : Type 0} → (P : A → Type 0) (u v : List A) → IsRotation u v → All P u → All P v
 Rotation-keeps P u v r h =
-    Rotation-steps (All P) (λ x w k. All-append P w (x ∷ []) (All-tail P x w k) (All-cons P x [] (All-head P x w k) (All-nil P))) u v r h
+    Rotation-steps (All P)
+    (λ x w k. All-append P w (x ∷ []) (All-tail P x w k) (All-cons P x [] (All-head P x w k) (All-nil P))) u v r h
 
 pub Rotation-count_by : {A : Type 0} → (p : A → Bool) (u v : List A) → IsRotation u v → count_by p u ≡ count_by p v
 Rotation-count_by p u v (a, b, e, f) =
@@ -119,11 +127,13 @@ turns_into-sound front (x ∷ rest) v e =
 turns_into-here : (front rest v : List ℤ) → rest ++ front ≡ v → turns_into front rest v ≡ true
 turns_into-here front [] v e = same_word-same front v e
 turns_into-here front (x ∷ rest) v e =
-    or_left (same_word ((x ∷ rest) ++ front) v) (turns_into (front ++ (x ∷ [])) rest v) (same_word-same ((x ∷ rest) ++ front) v e)
+    or_left (same_word ((x ∷ rest) ++ front) v) (turns_into (front ++ (x ∷ [])) rest v)
+    (same_word-same ((x ∷ rest) ++ front) v e)
 
 -- the test finds each split
 turns_into-complete : (front a b v : List ℤ) → b ++ (front ++ a) ≡ v → turns_into front (a ++ b) v ≡ true
-turns_into-complete front [] b v e = turns_into-here front b v (ap (λ (z : List ℤ). b ++ z) (sym (append-nil front)) ∙ e)
+turns_into-complete front [] b v e =
+    turns_into-here front b v (ap (λ (z : List ℤ). b ++ z) (sym (append-nil front)) ∙ e)
 turns_into-complete front (x ∷ a) b v e =
     or_right (same_word ((x ∷ (a ++ b)) ++ front) v) (turns_into (front ++ (x ∷ [])) (a ++ b) v)
     (turns_into-complete (front ++ (x ∷ [])) a b v (ap (λ (z : List ℤ). b ++ z) (append_assoc front (x ∷ []) a) ∙ e))
@@ -143,7 +153,8 @@ is_rotation-test u v = (is_rotation-sound u v, is_rotation-complete u v)
 -- the way back may stand on the other side
 pub Rotation-turned : (u v : List ℤ) → IsRotation (inverse_word u) v → IsRotation u (inverse_word v)
 Rotation-turned u v r =
-    subst (λ (z : List ℤ). IsRotation z (inverse_word v)) (inverse_word-inverse_word u) (Rotation-inverse_word (inverse_word u) v r)
+    subst (λ (z : List ℤ). IsRotation z (inverse_word v)) (inverse_word-inverse_word u)
+    (Rotation-inverse_word (inverse_word u) v r)
 
 pub SameCurve-refl : (u : List ℤ) → IsSameCurve u u
 SameCurve-refl u = inl (Rotation-refl u)
@@ -168,7 +179,8 @@ is_same_curve-sound u v e =
     ]
 
 pub is_same_curve-complete : (u v : List ℤ) → IsSameCurve u v → is_same_curve u v ≡ true
-is_same_curve-complete u v (inl r) = or_left (is_rotation u v) (is_rotation (inverse_word u) v) (is_rotation-complete u v r)
+is_same_curve-complete u v (inl r) =
+    or_left (is_rotation u v) (is_rotation (inverse_word u) v) (is_rotation-complete u v r)
 is_same_curve-complete u v (inr r) =
     or_right (is_rotation u v) (is_rotation (inverse_word u) v) (is_rotation-complete (inverse_word u) v r)
 
@@ -191,7 +203,8 @@ is_same_curve-respects c u v h =
     equal_truths false false f g = refl
 
 -- the way back has the same number of letters with a property that does not see the direction
-pub count_by-inverse_word : (p : ℤ → Bool) → ((x : ℤ) → p (inverse x) ≡ p x) → (w : List ℤ) → count_by p (inverse_word w) ≡ count_by p w
+pub count_by-inverse_word : (p : ℤ → Bool) → ((x : ℤ) → p (inverse x) ≡ p x) → (w : List ℤ)
+    → count_by p (inverse_word w) ≡ count_by p w
 count_by-inverse_word p both [] = refl
 count_by-inverse_word p both (x ∷ w) =
     sum_by_push (λ y. cond (p y) 1 0) (inverse_word w) (inverse x)
@@ -200,6 +213,7 @@ count_by-inverse_word p both (x ∷ w) =
     ∙ omega arith
     ∙ sym (sum_by-cons (λ y. cond (p y) 1 0) x w)
 
-pub SameCurve-count_by : (p : ℤ → Bool) → ((x : ℤ) → p (inverse x) ≡ p x) → (u v : List ℤ) → IsSameCurve u v → count_by p u ≡ count_by p v
+pub SameCurve-count_by : (p : ℤ → Bool) → ((x : ℤ) → p (inverse x) ≡ p x) → (u v : List ℤ) → IsSameCurve u v
+    → count_by p u ≡ count_by p v
 SameCurve-count_by p both u v (inl r) = Rotation-count_by p u v r
 SameCurve-count_by p both u v (inr r) = sym (count_by-inverse_word p both u) ∙ Rotation-count_by p (inverse_word u) v r

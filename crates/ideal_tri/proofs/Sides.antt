@@ -1,17 +1,23 @@
 -- Where a label stands, read off the table of places: its triangle, its side there, and the side after it.
-use Rattle.std.proofs.Common.{ℕ, ℤ, pos, Bool, true, false, List, [], ◌∷◌, ◌≡◌, ◌≢◌, ◌≤◌, ◌<◌, ◌+◌, ◌*◌, ◌/◌, ◌%◌, suc, zero, refl, sym, ◌∙◌, ap, subst, if◌then◌else◌, arith, length, take, get_or, length-take-le}
+--
+-- The labels of all triples in a row have side s of triangle i at the place 3 i + s. They are different, so a search
+-- for one of them finds it at its only place: the first triple that has it is triangle i, and it stands there as side
+-- s; the side after it is side s + 1, or side 0 after side 2. The table has the place of each label, so quotient and
+-- remainder by 3 give its triangle and its side. Since all labels of the range stand in the triples, no entry of a
+-- label is empty.
+use Rattle.std.proofs.Common.{ℕ, ℤ, pos, Bool, true, false, List, [], ◌∷◌, ◌≡◌, ◌≢◌, ◌≤◌, ◌<◌, ◌+◌, ◌*◌, ◌/◌, ◌%◌, suc}
+use Rattle.std.proofs.Common.{zero, sym, ◌∙◌, ap, subst, if◌then◌else◌, arith, length, take, get_or, length-take-le}
 use Rattle.std.specs.List.{All}
 use Rattle.std.specs.Ordering.{int_eq}
-use Rattle.std.proofs.lemmas.Bool.Decides.{Decides-int_eq}
 use Rattle.std.proofs.lemmas.List.{get_or_default, get_or-take}
 use Rattle.std.proofs.lemmas.List.Concat.{get_or-flat_map}
 use Rattle.std.proofs.lemmas.List.Elements.{All-head, All-tail, All-take, All-from_get_or}
 use Rattle.std.proofs.lemmas.List.Folds.{list_any_at, list_any_none}
-use Rattle.ideal_tri.specs.Labels.{inverse, edge_of}
+use Rattle.ideal_tri.specs.declared.tri.TheConstants.{NOWHERE, TRIANGLES}
 use Rattle.ideal_tri.specs.Triangulations.{labels_of, IsLabel, has_side, triangle_of, place_in, side_of, next_in, next}
 use Rattle.ideal_tri.specs.Refusals.{IsDistinct}
-use Rattle.ideal_tri.specs.Places.{key_of, label_at, IsGlued, IsLaidOut}
-use Rattle.ideal_tri.proofs.Labels.{edge_of-inverse}
+use Rattle.ideal_tri.specs.inside.Places.{key_of, label_at, IsGlued, IsLaidOut}
+use Rattle.ideal_tri.proofs.Labels.{int_eq-same, int_eq-other}
 use Rattle.ideal_tri.proofs.Places.{small_label}
 use Rattle.ideal_tri.proofs.Counting.{count, never, length-labels_of, AreAllLabels, all_labels}
 
@@ -21,7 +27,8 @@ AreTriples ts = All (λ (t : List ℤ). length t ≡ 3) ts
 
 -- ---- the label that stands at a place
 
-label_read : (ts : List (List ℤ)) (i s : ℕ) → AreTriples ts → i < length ts → s < 3 → get_or (labels_of ts) (3 * i + s) (pos 0) ≡ label_at ts i s
+label_read : (ts : List (List ℤ)) (i s : ℕ) → AreTriples ts → i < length ts → s < 3
+    → get_or (labels_of ts) (3 * i + s) (pos 0) ≡ label_at ts i s
 label_read ts i s three b c =
     let before : length (labels_of (take i ts)) ≡ 3 * length (take i ts) =
     length-labels_of (take i ts) (All-take (λ (t : List ℤ). length t ≡ 3) i ts three) in
@@ -30,9 +37,11 @@ label_read ts i s three b c =
     ap (λ (k : ℕ). get_or (labels_of ts) k (pos 0)) (omega arith)
     ∙ get_or-flat_map (λ (t : List ℤ). t) ts i s [] (pos 0) b (omega arith)
 
-pub label_there : (ts : List (List ℤ)) (k : ℕ) → AreTriples ts → k < 3 * length ts → get_or (labels_of ts) k (pos 0) ≡ label_at ts (k / 3) (k % 3)
+pub label_there : (ts : List (List ℤ)) (k : ℕ) → AreTriples ts → k < 3 * length ts
+    → get_or (labels_of ts) k (pos 0) ≡ label_at ts (k / 3) (k % 3)
 label_there ts k three b =
-    ap (λ (n : ℕ). get_or (labels_of ts) n (pos 0)) (omega arith) ∙ label_read ts (k / 3) (k % 3) three (omega arith) (omega arith)
+    ap (λ (n : ℕ). get_or (labels_of ts) n (pos 0)) (omega arith)
+    ∙ label_read ts (k / 3) (k % 3) three (omega arith) (omega arith)
 
 -- labels at different places are different
 apart : (ts : List (List ℤ)) (i r j s : ℕ) → AreTriples ts → IsDistinct (labels_of ts) → r < 3 → s < 3 → j < length ts
@@ -44,16 +53,6 @@ apart ts i r j s three distinct b c d order e =
 
 -- ---- within a triple
 
-same_test : (x : ℤ) → int_eq x x ≡ true
-same_test x = (Decides-int_eq x x).1 refl
-
-other_test : (y x : ℤ) → y ≢ x → int_eq y x ≡ false
-other_test y x ne = go (int_eq y x) refl
-  where
-    go : (b : Bool) → int_eq y x ≡ b → int_eq y x ≡ false
-    go true e = absurd (ne ((Decides-int_eq y x).0 e))
-    go false e = e
-
 -- x is side s of the triple
 record IsSide (t : List ℤ) (x : ℤ) (s : ℕ) : Type 0 where
   has : has_side x t ≡ true
@@ -63,14 +62,14 @@ record IsSide (t : List ℤ) (x : ℤ) (s : ℕ) : Type 0 where
 has_not : (t : List ℤ) (x : ℤ) → ((r : ℕ) → r < length t → get_or t r (pos 0) ≢ x) → has_side x t ≡ false
 has_not t x h =
     list_any_none (λ y. int_eq y x) t
-    (All-from_get_or (λ y. int_eq y x ≡ false) t (pos 0) (λ r b. other_test (get_or t r (pos 0)) x (h r b)))
+    (All-from_get_or (λ y. int_eq y x ≡ false) t (pos 0) (λ r b. int_eq-other (get_or t r (pos 0)) x (h r b)))
 
 has_at : (t : List ℤ) (x : ℤ) (s : ℕ) → s < length t → get_or t s (pos 0) ≡ x → has_side x t ≡ true
-has_at t x s b e = list_any_at (λ y. int_eq y x) t s (pos 0) b ((Decides-int_eq (get_or t s (pos 0)) x).1 e)
+has_at t x s b e = list_any_at (λ y. int_eq y x) t s (pos 0) b (int_eq-same (get_or t s (pos 0)) x e)
 
 first_side : (a b c x : ℤ) → a ≡ x → IsSide (a ∷ (b ∷ (c ∷ []))) x 0
 first_side a b c x e =
-    let h : int_eq a x ≡ true = (Decides-int_eq a x).1 e in
+    let h : int_eq a x ≡ true = int_eq-same a x e in
     record {
       has = has_at (a ∷ (b ∷ (c ∷ []))) x 0 (omega arith) e;
       place = ap (λ (v : Bool). if v then 0 else suc (place_in (b ∷ (c ∷ [])) x)) h;
@@ -79,31 +78,34 @@ first_side a b c x e =
 
 second_side : (a b c x : ℤ) → a ≢ x → b ≡ x → IsSide (a ∷ (b ∷ (c ∷ []))) x 1
 second_side a b c x ne e =
-    let g : int_eq a x ≡ false = other_test a x ne in
-    let h : int_eq b x ≡ true = (Decides-int_eq b x).1 e in
+    let g : int_eq a x ≡ false = int_eq-other a x ne in
+    let h : int_eq b x ≡ true = int_eq-same b x e in
     record {
       has = has_at (a ∷ (b ∷ (c ∷ []))) x 1 (omega arith) e;
       place =
           ap (λ (v : Bool). if v then 0 else suc (place_in (b ∷ (c ∷ [])) x)) g
           ∙ ap (λ (v : Bool). suc (if v then 0 else suc (place_in (c ∷ []) x))) h;
-      after = ap (λ (v : Bool). if v then b else (if int_eq b x then c else a)) g ∙ ap (λ (v : Bool). if v then c else a) h;
+      after =
+          ap (λ (v : Bool). if v then b else (if int_eq b x then c else a)) g ∙ ap (λ (v : Bool). if v then c else a) h;
     }
 
 third_side : (a b c x : ℤ) → a ≢ x → b ≢ x → c ≡ x → IsSide (a ∷ (b ∷ (c ∷ []))) x 2
 third_side a b c x ne nf e =
-    let g : int_eq a x ≡ false = other_test a x ne in
-    let h : int_eq b x ≡ false = other_test b x nf in
-    let i : int_eq c x ≡ true = (Decides-int_eq c x).1 e in
+    let g : int_eq a x ≡ false = int_eq-other a x ne in
+    let h : int_eq b x ≡ false = int_eq-other b x nf in
+    let i : int_eq c x ≡ true = int_eq-same c x e in
     record {
       has = has_at (a ∷ (b ∷ (c ∷ []))) x 2 (omega arith) e;
       place =
           ap (λ (v : Bool). if v then 0 else suc (place_in (b ∷ (c ∷ [])) x)) g
           ∙ ap (λ (v : Bool). suc (if v then 0 else suc (place_in (c ∷ []) x))) h
           ∙ ap (λ (v : Bool). suc (suc (if v then 0 else suc 0))) i;
-      after = ap (λ (v : Bool). if v then b else (if int_eq b x then c else a)) g ∙ ap (λ (v : Bool). if v then c else a) h;
+      after =
+          ap (λ (v : Bool). if v then b else (if int_eq b x then c else a)) g ∙ ap (λ (v : Bool). if v then c else a) h;
     }
 
-is_side : (t : List ℤ) (x : ℤ) (s : ℕ) → length t ≡ 3 → s < 3 → get_or t s (pos 0) ≡ x → ((r : ℕ) → r < s → get_or t r (pos 0) ≢ x) → IsSide t x s
+is_side : (t : List ℤ) (x : ℤ) (s : ℕ) → length t ≡ 3 → s < 3 → get_or t s (pos 0) ≡ x
+    → ((r : ℕ) → r < s → get_or t r (pos 0) ≢ x) → IsSide t x s
 is_side [] x s h b e f = absurd (omega arith)
 is_side (a ∷ []) x s h b e f = absurd (omega arith)
 is_side (a ∷ (b ∷ [])) x s h d e f = absurd (omega arith)
@@ -144,7 +146,8 @@ first_place (t ∷ ts) x (suc i) s three b c e first before =
       after = ap (λ (v : Bool). if v then next_in t x else next ts x) none ∙ later.after;
     }
 
-pub stands : (ts : List (List ℤ)) (x : ℤ) (i s : ℕ) → AreTriples ts → IsDistinct (labels_of ts) → i < length ts → s < 3 → label_at ts i s ≡ x → Stands ts x i s
+pub stands : (ts : List (List ℤ)) (x : ℤ) (i s : ℕ) → AreTriples ts → IsDistinct (labels_of ts) → i < length ts → s < 3
+    → label_at ts i s ≡ x → Stands ts x i s
 stands ts x i s three distinct b c e =
     first_place ts x i s three b c e
     (λ r d same. apart ts i r i s three distinct (omega arith) c b (omega arith) (same ∙ sym e))
@@ -160,7 +163,8 @@ pub record IsFound (ts : List (List ℤ)) (places : List ℕ) (x : ℤ) : Type 0
 pub all_there : (ts : List (List ℤ)) (places : List ℕ) → IsGlued ts places → AreAllLabels ts
 all_there ts places h = all_labels ts h.three_sides h.in_range h.placed.distinct
 
-pub taken : (ts : List (List ℤ)) (places : List ℕ) (x : ℤ) → IsGlued ts places → IsLabel ts x → get_or places (key_of x) 0 ≢ 255
+pub taken : (ts : List (List ℤ)) (places : List ℕ) (x : ℤ) → IsGlued ts places → IsLabel ts x
+    → get_or places (key_of x) 0 ≢ NOWHERE
 taken ts places x h b e =
     let all : AreAllLabels ts = all_there ts places h in
     let one : count (labels_of ts) x ≡ 1 = all.once x b in
@@ -179,21 +183,18 @@ found ts places x h b =
     record {
       below = below;
       label = label;
-      stands = stands ts x (get_or places (key_of x) 0 / 3) (get_or places (key_of x) 0 % 3) h.three_sides h.placed.distinct
+      stands =
+          stands ts x (get_or places (key_of x) 0 / 3) (get_or places (key_of x) 0 % 3) h.three_sides h.placed.distinct
           (omega arith) (omega arith) label;
     }
 
 -- ---- as the code reads the table
 
-pub is_label_at : (ts : List (List ℤ)) (places : List ℕ) (i s : ℕ) → IsGlued ts places → i < length ts → s < 3 → IsLabel ts (label_at ts i s)
+pub is_label_at : (ts : List (List ℤ)) (places : List ℕ) (i s : ℕ) → IsGlued ts places → i < length ts → s < 3
+    → IsLabel ts (label_at ts i s)
 is_label_at ts places i s h b c =
     let long : length (labels_of ts) ≡ 3 * length ts = length-labels_of ts h.three_sides in
     subst (IsLabel ts) (label_read ts i s h.three_sides b c) (h.in_range (3 * i + s) (pos 0) (omega arith))
-
-pub is_label-inverse : (ts : List (List ℤ)) (x : ℤ) → IsLabel ts x → IsLabel ts (inverse x)
-is_label-inverse ts x h =
-    let e : edge_of (inverse x) ≡ edge_of x = edge_of-inverse x in
-    omega arith
 
 -- what is read at the key of x
 pub record IsRead (ts : List (List ℤ)) (x : ℤ) (n : ℕ) : Type 0 where
@@ -201,7 +202,8 @@ pub record IsRead (ts : List (List ℤ)) (x : ℤ) (n : ℕ) : Type 0 where
   pub side : n % 3 ≡ side_of ts x
   pub within : n / 3 < length ts
 
-pub read : (ts : List (List ℤ)) (places : List ℕ) (x : ℤ) (key n : ℕ) → IsGlued ts places → IsLabel ts x → key ≡ key_of x → n ≡ get_or places key 0
+pub read : (ts : List (List ℤ)) (places : List ℕ) (x : ℤ) (key n : ℕ) → IsGlued ts places → IsLabel ts x
+    → key ≡ key_of x → n ≡ get_or places key 0
     → IsRead ts x n
 read ts places x key n h b e f =
     let here : IsFound ts places x = found ts places x h b in
@@ -227,12 +229,13 @@ next_read ts places x h b =
     )
 
 -- the side after x, read off the array of triples
-pub next_side : (n : ℕ) (sides : List (List ℤ)) (places : List ℕ) (x : ℤ) (i s : ℕ) (d : ℤ) → IsLaidOut n sides places → IsLabel (take n sides) x
+pub next_side : (n : ℕ) (sides : List (List ℤ)) (places : List ℕ) (x : ℤ) (i s : ℕ) (d : ℤ) → IsLaidOut n sides places
+    → IsLabel (take n sides) x
     → i ≡ triangle_of (take n sides) x → s ≡ side_of (take n sides) x
-    → (i < 32) × (get_or (get_or sides i []) ((s + 1) % 3) d ≡ next (take n sides) x)
+    → (i < TRIANGLES) × (get_or (get_or sides i []) ((s + 1) % 3) d ≡ next (take n sides) x)
 next_side n sides places x i s d h b e f =
-    let fits : n ≤ 32 = h.fits in
-    let room : length sides ≡ 32 = h.room in
+    let fits : n ≤ TRIANGLES = h.fits in
+    let room : length sides ≡ TRIANGLES = h.room in
     let long : length (take n sides) ≡ n = length-take-le n sides (omega arith) in
     let (within, after) = next_read (take n sides) places x h.glued b in
     let below : i < n = omega arith in
@@ -247,11 +250,12 @@ next_side n sides places x i s d h b e f =
     )
 
 -- what the array holds of a triangle are labels
-pub row_labels : (n : ℕ) (sides : List (List ℤ)) (places : List ℕ) (i : ℕ) → IsLaidOut n sides places → i < length (take n sides)
+pub row_labels : (n : ℕ) (sides : List (List ℤ)) (places : List ℕ) (i : ℕ) → IsLaidOut n sides places
+    → i < length (take n sides)
     → All (IsLabel (take n sides)) (get_or sides i [])
 row_labels n sides places i h b =
-    let fits : n ≤ 32 = h.fits in
-    let room : length sides ≡ 32 = h.room in
+    let fits : n ≤ TRIANGLES = h.fits in
+    let room : length sides ≡ TRIANGLES = h.room in
     let long : length (take n sides) ≡ n = length-take-le n sides (omega arith) in
     let row : get_or (take n sides) i [] ≡ get_or sides i [] = get_or-take n sides i [] (omega arith) in
     let three : length (get_or (take n sides) i []) ≡ 3 = h.glued.three_sides i [] b in

@@ -1,5 +1,6 @@
 -- The corners of a vector, and the strands through the triangles.
-use Rattle.std.proofs.Common.{ℕ, ℤ, List, [], ◌∷◌, ◌≡◌, ◌≤◌, ◌+◌, ◌-◌, ◌/◌, ◌%◌, ◌⊎◌, inl, inr, sym, ◌∙◌, ap, subst, arith}
+use Rattle.std.proofs.Common.{ℕ, ℤ, List, [], ◌∷◌, ◌≡◌, ◌≤◌, ◌+◌, ◌-◌, ◌/◌, ◌%◌, ◌⊎◌, inl, inr, sym, ◌∙◌, ap, subst}
+use Rattle.std.proofs.Common.{arith}
 use Rattle.std.proofs.lemmas.List.Elements.{All-contains}
 use Rattle.ideal_tri.specs.Triangulations.{IsLabel, IsTriangulation, previous}
 use Rattle.ideal_tri.specs.Vectors.{IsMulticurve, IsEven, HasNoLongSide, weight, corner_count}
@@ -26,7 +27,8 @@ IsGood-turned a b c h = record {
   short_c = omega (arith, h.short_a);
 }
 
-good_sides : (triples : List (List ℤ)) (w : List ℕ) (x y z : ℤ) (n : ℕ) → IsMulticurve triples w → Triangle triples x y z n
+good_sides : (triples : List (List ℤ)) (w : List ℕ) (x y z : ℤ) (n : ℕ) → IsMulticurve triples w
+    → Triangle triples x y z n
     → IsGood (weight w x) (weight w y) (weight w z)
 good_sides triples w x y z n m g = go g.is
   where
@@ -36,14 +38,16 @@ good_sides triples w x y z n m g = go g.is
     short : HasNoLongSide w g.triple
     short = All-contains (HasNoLongSide w) triples g.triple m.no_long_side g.stands
 
-    of_triple : (a b c : ℤ) → IsEven w (a ∷ (b ∷ (c ∷ []))) → HasNoLongSide w (a ∷ (b ∷ (c ∷ []))) → IsGood (weight w a) (weight w b) (weight w c)
+    of_triple : (a b c : ℤ) → IsEven w (a ∷ (b ∷ (c ∷ []))) → HasNoLongSide w (a ∷ (b ∷ (c ∷ [])))
+        → IsGood (weight w a) (weight w b) (weight w c)
     of_triple a b c e s = record { even = e; short_a = s.0; short_b = s.1; short_c = s.2 }
 
     go : (g.triple ≡ x ∷ (y ∷ (z ∷ []))) ⊎ ((g.triple ≡ y ∷ (z ∷ (x ∷ []))) ⊎ (g.triple ≡ z ∷ (x ∷ (y ∷ []))))
         → IsGood (weight w x) (weight w y) (weight w z)
     go (inl e) = of_triple x y z (subst (IsEven w) e even) (subst (HasNoLongSide w) e short)
     go (inr (inl e)) =
-        IsGood-turned _ _ _ (IsGood-turned _ _ _ (of_triple y z x (subst (IsEven w) e even) (subst (HasNoLongSide w) e short)))
+        IsGood-turned _ _ _
+        (IsGood-turned _ _ _ (of_triple y z x (subst (IsEven w) e even) (subst (HasNoLongSide w) e short)))
     go (inr (inr e)) = IsGood-turned _ _ _ (of_triple z x y (subst (IsEven w) e even) (subst (HasNoLongSide w) e short))
 
 corner-is : (triples : List (List ℤ)) (w : List ℕ) (x y z : ℤ) (n : ℕ) → Triangle triples x y z n
@@ -53,7 +57,8 @@ corner-is triples w x y z n g =
     ∙ ap (λ (u : ℤ). (weight w x + weight w y - weight w u) / 2) (previous-is triples x y z n g)
 
 -- the strands of a side are those of the corners at its two ends
-pub corner_sum : (triples : List (List ℤ)) → IsTriangulation triples → (w : List ℕ) (x : ℤ) → IsMulticurve triples w → IsLabel triples x
+pub corner_sum : (triples : List (List ℤ)) → IsTriangulation triples → (w : List ℕ) (x : ℤ) → IsMulticurve triples w
+    → IsLabel triples x
     → weight w x ≡ corner_count triples w x + corner_count triples w (previous triples x)
 corner_sum triples h w x m l = sum (triangle_at triples h x l)
   where
@@ -63,7 +68,10 @@ corner_sum triples h w x m l = sum (triangle_at triples h x l)
         let z = g.third in
         let good = good_sides triples w x y z g.number m g.sides in
         halves (weight w x) (weight w y) (weight w z) good.even good.short_a good.short_b good.short_c
-        ∙ ap (λ (k : ℕ). k + (weight w z + weight w x - weight w y) / 2) (sym (corner-is triples w x y z g.number g.sides))
+        ∙ ap (λ (k : ℕ). k + (weight w z + weight w x - weight w y) / 2)
+        (sym (corner-is triples w x y z g.number g.sides))
         ∙ ap (λ (k : ℕ). corner_count triples w x + k)
-        (sym (corner-is triples w z x y g.number (turned triples y z x g.number (turned triples x y z g.number g.sides))))
-        ∙ ap (λ (u : ℤ). corner_count triples w x + corner_count triples w u) (sym (previous-is triples x y z g.number g.sides))
+        (sym (corner-is triples w z x y g.number
+        (turned triples y z x g.number (turned triples x y z g.number g.sides))))
+        ∙ ap (λ (u : ℤ). corner_count triples w x + corner_count triples w u)
+        (sym (previous-is triples x y z g.number g.sides))

@@ -1,12 +1,20 @@
 -- Each label of a triangulation stands at one place, and next runs round its triangle.
-use Rattle.std.proofs.Common.{ℕ, ℤ, suc, Bool, ◌||◌, true, false, cond, List, [], ◌∷◌, ◌++◌, ◌≡◌, ◌≢◌, ◌≤◌, ◌<◌, ◌+◌, ◌⊎◌, inl, inr, refl, sym, ◌∙◌, ap, subst, arith, length}
+--
+-- A triple in which no label stands twice has three different sides, and each is followed by another. Where no label
+-- stands twice in all triples, the search for a label ends at the triple that has it, so that the first triple gives a
+-- triangle, and each later one is still a triangle behind one more triple. In a triangulation each label of the range
+-- stands once and no other stands at all. So it has a triangle, which can be read from any of its three sides: three
+-- steps of next come back, and the sides of the triangle are just these three.
+use Rattle.std.proofs.Common.{ℕ, zero, ℤ, suc, Bool, ◌||◌, true, false, cond, List, [], ◌∷◌, ◌++◌, ◌≡◌, ◌≢◌, ◌≤◌, ◌<◌}
+use Rattle.std.proofs.Common.{◌+◌, ◌⊎◌, inl, inr, refl, sym, ◌∙◌, ap, subst, arith, length, get_or}
 use Rattle.std.specs.List.{All, Contains, count_by}
 use Rattle.std.specs.Ordering.{int_eq}
 use Rattle.std.proofs.lemmas.Bool.{cases_Bool, cases_lt, false≢true, lt-ltb, le-ltb}
 use Rattle.std.proofs.lemmas.List.Elements.{All-head, All-tail}
 use Rattle.std.proofs.lemmas.List.Sums.{sum_by-cons, sum_by-append}
 use Rattle.ideal_tri.specs.Labels.{edge_of}
-use Rattle.ideal_tri.specs.Triangulations.{labels_of, edge_count, IsLabel, IsTriangulation, has_side, triangle_of, next_in, next, previous}
+use Rattle.ideal_tri.specs.Triangulations.{labels_of, edge_count, IsLabel, IsTriangulation, has_side, triangle_of}
+use Rattle.ideal_tri.specs.Triangulations.{next_in, next, previous}
 use Rattle.ideal_tri.specs.SurfaceLaws.{TriangleLaws}
 use Rattle.ideal_tri.proofs.Labels.{same_or_not, int_eq-same, int_eq-other}
 
@@ -25,7 +33,8 @@ times_here : (x y : ℤ) (ys : List ℤ) → y ≡ x → times x (y ∷ ys) ≡ 
 times_here x y ys e = times-cons x y ys ∙ ap (λ (b : Bool). cond b 1 0 + times x ys) (int_eq-same y x e)
 
 times_later : (x y : ℤ) (ys : List ℤ) → y ≢ x → times x (y ∷ ys) ≡ times x ys
-times_later x y ys ne = times-cons x y ys ∙ ap (λ (b : Bool). cond b 1 0 + times x ys) (int_eq-other y x ne) ∙ zero_plus (times x ys)
+times_later x y ys ne =
+    times-cons x y ys ∙ ap (λ (b : Bool). cond b 1 0 + times x ys) (int_eq-other y x ne) ∙ zero_plus (times x ys)
   where
     zero_plus : (n : ℕ) → 0 + n ≡ n
     zero_plus n = omega arith
@@ -46,7 +55,7 @@ times_of_side x (y ∷ ys) h =
     ]
 
 -- and one that hasn't does not
-times_of_no_side : (x : ℤ) (t : List ℤ) → has_side x t ≡ false → times x t ≡ 0
+pub times_of_no_side : (x : ℤ) (t : List ℤ) → has_side x t ≡ false → times x t ≡ 0
 times_of_no_side x [] h = refl
 times_of_no_side x (y ∷ ys) h =
     elim (same_or_not y x) [
@@ -115,16 +124,19 @@ next_in-first a b c = ap (λ (t : Bool). cond t b (cond (int_eq b a) c a)) (int_
 
 next_in-second : (a b c : ℤ) → a ≢ b → next_in (a ∷ (b ∷ (c ∷ []))) b ≡ c
 next_in-second a b c ne =
-    ap (λ (t : Bool). cond t b (cond (int_eq b b) c a)) (int_eq-other a b ne) ∙ ap (λ (t : Bool). cond t c a) (int_eq-same b b refl)
+    ap (λ (t : Bool). cond t b (cond (int_eq b b) c a)) (int_eq-other a b ne)
+    ∙ ap (λ (t : Bool). cond t c a) (int_eq-same b b refl)
 
 next_in-third : (a b c : ℤ) → a ≢ c → b ≢ c → next_in (a ∷ (b ∷ (c ∷ []))) c ≡ a
 next_in-third a b c ne nf =
-    ap (λ (t : Bool). cond t b (cond (int_eq b c) c a)) (int_eq-other a c ne) ∙ ap (λ (t : Bool). cond t c a) (int_eq-other b c nf)
+    ap (λ (t : Bool). cond t b (cond (int_eq b c) c a)) (int_eq-other a c ne)
+    ∙ ap (λ (t : Bool). cond t c a) (int_eq-other b c nf)
 
 -- ---- the first triangle of a list, and the later ones
 
 -- a side of the first triangle, with the side after it there
-first_goes : (t : List ℤ) (rest : List (List ℤ)) (x y : ℤ) → has_side x t ≡ true → next_in t x ≡ y → GoesTo (t ∷ rest) x y 0
+first_goes : (t : List ℤ) (rest : List (List ℤ)) (x y : ℤ) → has_side x t ≡ true → next_in t x ≡ y
+    → GoesTo (t ∷ rest) x y 0
 first_goes t rest x y h e = record {
   counted = omega (arith, times-append x t (labels_of rest), times_of_side x t h);
   triangle = ap (λ (b : Bool). cond b 0 (suc (triangle_of rest x))) h;
@@ -132,7 +144,8 @@ first_goes t rest x y h e = record {
 }
 
 -- a side of a later triangle
-later_goes : (t : List ℤ) (rest : List (List ℤ)) (x y : ℤ) (n : ℕ) → has_side x t ≡ false → GoesTo rest x y n → GoesTo (t ∷ rest) x y (suc n)
+later_goes : (t : List ℤ) (rest : List (List ℤ)) (x y : ℤ) (n : ℕ) → has_side x t ≡ false → GoesTo rest x y n
+    → GoesTo (t ∷ rest) x y (suc n)
 later_goes t rest x y n h g = record {
   counted = omega (arith, times-append x t (labels_of rest), g.counted);
   triangle = ap (λ (b : Bool). cond b 0 (suc (triangle_of rest x))) h ∙ ap suc g.triangle;
@@ -147,7 +160,8 @@ pub IsOnce-tail : (t : List ℤ) (rest : List (List ℤ)) → IsOnce (t ∷ rest
 IsOnce-tail t rest h = record { once = λ x. omega (arith, h.once x, times-append x t (labels_of rest)) }
 
 -- a label of the later triangles is no side of the first
-not_first : (t : List ℤ) (rest : List (List ℤ)) (x : ℤ) → IsOnce (t ∷ rest) → 0 < times x (labels_of rest) → has_side x t ≡ false
+not_first : (t : List ℤ) (rest : List (List ℤ)) (x : ℤ) → IsOnce (t ∷ rest) → 0 < times x (labels_of rest)
+    → has_side x t ≡ false
 not_first t rest x h counted = no_side_of_times x t (omega (arith, h.once x, times-append x t (labels_of rest)))
 
 side_cases : (a b c x : ℤ) → has_side x (a ∷ (b ∷ (c ∷ []))) ≡ true → (x ≡ a) ⊎ ((x ≡ b) ⊎ (x ≡ c))
@@ -161,18 +175,25 @@ side_cases a b c x h =
                 elim (same_or_not c x) [
                   | inl e ↦ inr (inr (sym e))
                   | inr nc ↦
-                      absurd (false≢true (sym (has_side_later x a (b ∷ (c ∷ [])) na ∙ has_side_later x b (c ∷ []) nb ∙ has_side_later x c [] nc) ∙ h))
+                      absurd (false≢true
+                      (sym (has_side_later x a (b ∷ (c ∷ [])) na ∙ has_side_later x b (c ∷ []) nb ∙ has_side_later x c
+                      [] nc) ∙ h))
                 ]
           ]
     ]
 
 -- the three sides of a triangle in which no label stands twice
-pub first_triangle : (a b c : ℤ) (rest : List (List ℤ)) → IsOnce ((a ∷ (b ∷ (c ∷ []))) ∷ rest) → Triangle ((a ∷ (b ∷ (c ∷ []))) ∷ rest) a b c 0
+pub first_triangle : (a b c : ℤ) (rest : List (List ℤ)) → IsOnce ((a ∷ (b ∷ (c ∷ []))) ∷ rest)
+    → Triangle ((a ∷ (b ∷ (c ∷ []))) ∷ rest) a b c 0
 first_triangle a b c rest h = record {
   below = omega arith;
   first = first_goes (a ∷ (b ∷ (c ∷ []))) rest a b (has_side_here a a (b ∷ (c ∷ [])) refl) (next_in-first a b c);
-  second = first_goes (a ∷ (b ∷ (c ∷ []))) rest b c (has_side_later b a (b ∷ (c ∷ [])) ab ∙ has_side_here b b (c ∷ []) refl) (next_in-second a b c ab);
-  third = first_goes (a ∷ (b ∷ (c ∷ []))) rest c a (has_side_later c a (b ∷ (c ∷ [])) (λ e. ca (sym e)) ∙ has_side_later c b (c ∷ []) bc ∙ has_side_here c c [] refl)
+  second =
+      first_goes (a ∷ (b ∷ (c ∷ []))) rest b c (has_side_later b a (b ∷ (c ∷ [])) ab ∙ has_side_here b b (c ∷ []) refl)
+      (next_in-second a b c ab);
+  third =
+      first_goes (a ∷ (b ∷ (c ∷ []))) rest c a
+      (has_side_later c a (b ∷ (c ∷ [])) (λ e. ca (sym e)) ∙ has_side_later c b (c ∷ []) bc ∙ has_side_here c c [] refl)
       (next_in-third a b c (λ e. ca (sym e)) bc);
   first_second = ab;
   second_third = bc;
@@ -184,25 +205,52 @@ first_triangle a b c rest h = record {
 }
   where
     ab : a ≢ b
-    ab e = omega (arith, h.once b, times-append b (a ∷ (b ∷ (c ∷ []))) (labels_of rest), times_here b a (b ∷ (c ∷ [])) e, times_here b b (c ∷ []) refl)
+    ab e =
+        omega (
+          arith,
+          h.once b,
+          times-append b (a ∷ (b ∷ (c ∷ []))) (labels_of rest),
+          times_here b a (b ∷ (c ∷ [])) e,
+          times_here b b (c ∷ []) refl,
+        )
 
     bc : b ≢ c
-    bc e = omega (arith, h.once c, times-append c (a ∷ (b ∷ (c ∷ []))) (labels_of rest), times-cons c a (b ∷ (c ∷ [])), times_here c b (c ∷ []) e, times_here c c [] refl)
+    bc e =
+        omega (
+          arith,
+          h.once c,
+          times-append c (a ∷ (b ∷ (c ∷ []))) (labels_of rest),
+          times-cons c a (b ∷ (c ∷ [])),
+          times_here c b (c ∷ []) e,
+          times_here c c [] refl,
+        )
 
     ca : c ≢ a
-    ca e = omega (arith, h.once a, times-append a (a ∷ (b ∷ (c ∷ []))) (labels_of rest), times_here a a (b ∷ (c ∷ [])) refl, times-cons a b (c ∷ []), times_here a c [] e)
+    ca e =
+        omega (
+          arith,
+          h.once a,
+          times-append a (a ∷ (b ∷ (c ∷ []))) (labels_of rest),
+          times_here a a (b ∷ (c ∷ []))
+              refl,
+          times-cons a b (c ∷ []),
+          times_here a c [] e,
+        )
 
-    only : (u : ℤ) → 0 < times u (labels_of ((a ∷ (b ∷ (c ∷ []))) ∷ rest)) → triangle_of ((a ∷ (b ∷ (c ∷ []))) ∷ rest) u ≡ 0 → (u ≡ a) ⊎ ((u ≡ b) ⊎ (u ≡ c))
+    only : (u : ℤ) → 0 < times u (labels_of ((a ∷ (b ∷ (c ∷ []))) ∷ rest))
+        → triangle_of ((a ∷ (b ∷ (c ∷ []))) ∷ rest) u ≡ 0 → (u ≡ a) ⊎ ((u ≡ b) ⊎ (u ≡ c))
     only u counted at =
         elim (cases_Bool (has_side u (a ∷ (b ∷ (c ∷ []))))) [
           | inl s ↦ side_cases a b c u s
           | inr s ↦
-              (let later : suc (triangle_of rest u) ≡ 0 = sym (ap (λ (r : Bool). cond r 0 (suc (triangle_of rest u))) s) ∙ at in
+              (let later : suc (triangle_of rest u) ≡ 0 =
+              sym (ap (λ (r : Bool). cond r 0 (suc (triangle_of rest u))) s) ∙ at in
               absurd (omega arith))
         ]
 
 -- a later triangle keeps its sides behind one more triangle
-pub later_triangle : (t : List ℤ) (rest : List (List ℤ)) (x y z : ℤ) (n : ℕ) → IsOnce (t ∷ rest) → Triangle rest x y z n → Triangle (t ∷ rest) x y z (suc n)
+pub later_triangle : (t : List ℤ) (rest : List (List ℤ)) (x y z : ℤ) (n : ℕ) → IsOnce (t ∷ rest) → Triangle rest x y z n
+    → Triangle (t ∷ rest) x y z (suc n)
 later_triangle t rest x y z n h g = record {
   below = omega (arith, g.below);
   first = later_goes t rest x y n (not_first t rest x h g.first.counted) g.first;
@@ -217,14 +265,16 @@ later_triangle t rest x y z n h g = record {
   is = g.is;
 }
   where
-    only : (u : ℤ) → 0 < times u (labels_of (t ∷ rest)) → triangle_of (t ∷ rest) u ≡ suc n → (u ≡ x) ⊎ ((u ≡ y) ⊎ (u ≡ z))
+    only : (u : ℤ) → 0 < times u (labels_of (t ∷ rest)) → triangle_of (t ∷ rest) u ≡ suc n
+        → (u ≡ x) ⊎ ((u ≡ y) ⊎ (u ≡ z))
     only u counted at =
         elim (cases_Bool (has_side u t)) [
           | inl s ↦
               (let here : 0 ≡ suc n = sym (ap (λ (r : Bool). cond r 0 (suc (triangle_of rest u))) s) ∙ at in
               absurd (omega arith))
           | inr s ↦
-              (let later : suc (triangle_of rest u) ≡ suc n = sym (ap (λ (r : Bool). cond r 0 (suc (triangle_of rest u))) s) ∙ at in
+              (let later : suc (triangle_of rest u) ≡ suc n =
+              sym (ap (λ (r : Bool). cond r 0 (suc (triangle_of rest u))) s) ∙ at in
               g.only u (omega (arith, times-append u t (labels_of rest), times_of_no_side u t s)) (omega arith))
         ]
 
@@ -238,7 +288,8 @@ pub record HasTriangle (triples : List (List ℤ)) (x : ℤ) : Type 0 where
   pub number : ℕ
   pub sides : Triangle triples x second third number
 
-in_later : (t : List ℤ) (rest : List (List ℤ)) (x : ℤ) → IsOnce (t ∷ rest) → HasTriangle rest x → HasTriangle (t ∷ rest) x
+in_later : (t : List ℤ) (rest : List (List ℤ)) (x : ℤ) → IsOnce (t ∷ rest) → HasTriangle rest x
+    → HasTriangle (t ∷ rest) x
 in_later t rest x h g = record {
   second = g.second;
   third = g.third;
@@ -246,7 +297,8 @@ in_later t rest x h g = record {
   sides = later_triangle t rest x g.second g.third g.number h g.sides;
 }
 
-in_first : (a b c : ℤ) (rest : List (List ℤ)) (x : ℤ) → Triangle ((a ∷ (b ∷ (c ∷ []))) ∷ rest) a b c 0 → (x ≡ a) ⊎ ((x ≡ b) ⊎ (x ≡ c))
+in_first : (a b c : ℤ) (rest : List (List ℤ)) (x : ℤ) → Triangle ((a ∷ (b ∷ (c ∷ []))) ∷ rest) a b c 0
+    → (x ≡ a) ⊎ ((x ≡ b) ⊎ (x ≡ c))
     → HasTriangle ((a ∷ (b ∷ (c ∷ []))) ∷ rest) x
 in_first a b c rest x g (inl e) =
     subst (HasTriangle ((a ∷ (b ∷ (c ∷ []))) ∷ rest)) (sym e) (record { second = b; third = c; number = 0; sides = g })
@@ -263,15 +315,18 @@ in_first a b c rest x g (inr (inr e)) =
     })
 
 -- the first triangle has three sides
-first_of_three : (t : List ℤ) (rest : List (List ℤ)) (x : ℤ) → length t ≡ 3 → IsOnce (t ∷ rest) → has_side x t ≡ true → HasTriangle (t ∷ rest) x
+first_of_three : (t : List ℤ) (rest : List (List ℤ)) (x : ℤ) → length t ≡ 3 → IsOnce (t ∷ rest) → has_side x t ≡ true
+    → HasTriangle (t ∷ rest) x
 first_of_three [] rest x l h s = absurd (omega arith)
 first_of_three (a ∷ []) rest x l h s = absurd (omega arith)
 first_of_three (a ∷ (b ∷ [])) rest x l h s = absurd (omega arith)
-first_of_three (a ∷ (b ∷ (c ∷ []))) rest x l h s = in_first a b c rest x (first_triangle a b c rest h) (side_cases a b c x s)
+first_of_three (a ∷ (b ∷ (c ∷ []))) rest x l h s =
+    in_first a b c rest x (first_triangle a b c rest h) (side_cases a b c x s)
 first_of_three (a ∷ (b ∷ (c ∷ (d ∷ more)))) rest x l h s = absurd (omega arith)
 
 -- each label that stands in the triples has a triangle
-pub triangle_of_label : (triples : List (List ℤ)) → All (λ t. length t ≡ 3) triples → IsOnce triples → (x : ℤ) → 0 < times x (labels_of triples)
+pub triangle_of_label : (triples : List (List ℤ)) → All (λ t. length t ≡ 3) triples → IsOnce triples → (x : ℤ)
+    → 0 < times x (labels_of triples)
     → HasTriangle triples x
 triangle_of_label [] three h x counted = absurd (omega arith)
 triangle_of_label (t ∷ rest) three h x counted =
@@ -283,17 +338,44 @@ triangle_of_label (t ∷ rest) three h x counted =
           (omega (arith, times-append x t (labels_of rest), times_of_no_side x t s)))
     ]
 
+-- ---- the triangle with a given number
+
+times_of_contained : (x : ℤ) (xs : List ℤ) → Contains xs x → 0 < times x xs
+times_of_contained x [] (k, below, is) = absurd (omega arith)
+times_of_contained x (y ∷ ys) (zero, below, is) = omega (arith, times_here x y ys is)
+times_of_contained x (y ∷ ys) (suc k, below, is) =
+    omega (arith, times-cons x y ys, times_of_contained x ys (k, omega arith, is))
+
+-- its sides are counted, and it is their triangle
+numbered : (triples : List (List ℤ)) → IsOnce triples → (t : ℕ) (x : ℤ) → t < length triples
+    → 0 < times x (get_or triples t []) → (0 < times x (labels_of triples)) × (triangle_of triples x ≡ t)
+numbered [] h t x below c = absurd (omega arith)
+numbered (u ∷ rest) h zero x below c =
+    elim (cases_Bool (has_side x u)) [
+      | inl s ↦
+          (omega (arith, times-append x u (labels_of rest)), ap (λ (b : Bool). cond b 0 (suc (triangle_of rest x))) s)
+      | inr s ↦ absurd (omega (arith, times_of_no_side x u s))
+    ]
+numbered (u ∷ rest) h (suc t) x below c =
+    let (counted, is) = numbered rest (IsOnce-tail u rest h) t x (omega arith) c in (
+      omega (arith, times-append x u (labels_of rest)),
+      ap (λ (b : Bool). cond b 0 (suc (triangle_of rest x))) (not_first u rest x h counted) ∙ ap suc is,
+    )
+
 -- ---- triangulations
 
-pub counted_once : (triples : List (List ℤ)) → IsTriangulation triples → (x : ℤ) → IsLabel triples x → times x (labels_of triples) ≡ 1
+pub counted_once : (triples : List (List ℤ)) → IsTriangulation triples → (x : ℤ) → IsLabel triples x
+    → times x (labels_of triples) ≡ 1
 counted_once triples h x l = h.labels x ∙ ap (λ (b : Bool). cond b 1 0) (lt-ltb (edge_of x) (edge_count triples) l)
 
-pub label_of_counted : (triples : List (List ℤ)) → IsTriangulation triples → (x : ℤ) → 0 < times x (labels_of triples) → IsLabel triples x
+pub label_of_counted : (triples : List (List ℤ)) → IsTriangulation triples → (x : ℤ) → 0 < times x (labels_of triples)
+    → IsLabel triples x
 label_of_counted triples h x c =
     elim (cases_lt (edge_of x) (edge_count triples)) [
       | inl l ↦ l
       | inr l ↦
-          (let none : times x (labels_of triples) ≡ 0 = h.labels x ∙ ap (λ (b : Bool). cond b 1 0) (le-ltb (edge_of x) (edge_count triples) l) in
+          (let none : times x (labels_of triples) ≡ 0 =
+          h.labels x ∙ ap (λ (b : Bool). cond b 1 0) (le-ltb (edge_of x) (edge_count triples) l) in
           absurd (omega arith))
     ]
 
@@ -303,15 +385,18 @@ IsOnce-triangulation triples h = record {
       elim (cases_lt (edge_of x) (edge_count triples)) [
         | inl l ↦ omega (arith, counted_once triples h x l)
         | inr l ↦
-            (let none : times x (labels_of triples) ≡ 0 = h.labels x ∙ ap (λ (b : Bool). cond b 1 0) (le-ltb (edge_of x) (edge_count triples) l) in
+            (let none : times x (labels_of triples) ≡ 0 =
+            h.labels x ∙ ap (λ (b : Bool). cond b 1 0) (le-ltb (edge_of x) (edge_count triples) l) in
             omega arith)
       ];
 }
 
 -- the triangle of a label of a triangulation
-pub triangle_at : (triples : List (List ℤ)) → IsTriangulation triples → (x : ℤ) → IsLabel triples x → HasTriangle triples x
+pub triangle_at : (triples : List (List ℤ)) → IsTriangulation triples → (x : ℤ) → IsLabel triples x
+    → HasTriangle triples x
 triangle_at triples h x l =
-    triangle_of_label triples h.three_sides (IsOnce-triangulation triples h) x (omega (arith, counted_once triples h x l))
+    triangle_of_label triples h.three_sides (IsOnce-triangulation triples h) x
+    (omega (arith, counted_once triples h x l))
 
 pub previous-is : (triples : List (List ℤ)) (x y z : ℤ) (n : ℕ) → Triangle triples x y z n → previous triples x ≡ z
 previous-is triples x y z n g = ap (next triples) g.first.after ∙ g.second.after
@@ -323,6 +408,10 @@ pub triangle_laws : (triples : List (List ℤ)) → IsTriangulation triples → 
 triangle_laws triples h = record {
   triangle = λ x l. let g = triangle_at triples h x l in
       subst (λ (k : ℕ). k < length triples) (sym g.sides.first.triangle) g.sides.below;
+  listed =
+      λ t x below here. let (counted, is) =
+      numbered triples (IsOnce-triangulation triples h) t x below (times_of_contained x _ here) in
+      (label_of_counted triples h x counted, is);
   label = λ x l. let g = triangle_at triples h x l in
       subst (IsLabel triples) (sym g.sides.first.after) (label_of_counted triples h g.second g.sides.second.counted);
   round = λ x l. let g = triangle_at triples h x l in

@@ -1,5 +1,12 @@
 -- Turning round a vertex: the corner step comes back, and the least corner found is the least of the whole turn.
-use Rattle.std.proofs.Common.{ℕ, zero, suc, ℤ, pos, negsuc, Bool, cond, eqb, List, [], ◌∷◌, ◌≡◌, ◌≢◌, ◌≤◌, ◌<◌, ◌+◌, ◌-◌, ◌*◌, ◌/◌, ◌%◌, ◌⊎◌, inl, inr, refl, sym, ◌∙◌, ap, subst, arith, length, get_or}
+--
+-- The step from x to the inverse of next x is injective on the labels, so iterates of it are. As long as it does not
+-- come back to x, the corners passed are different labels. There are no more labels than 2 ζ, so it is back at x after
+-- at most 2 ζ steps, and each corner of the vertex is met within these. So to lie at one vertex is symmetric, and the
+-- least of the 2 ζ corners from x on is the least corner of the vertex: it is the same for all corners there, and it
+-- is its own.
+use Rattle.std.proofs.Common.{ℕ, zero, suc, ℤ, pos, negsuc, Bool, cond, eqb, List, [], ◌∷◌, ◌≡◌, ◌≢◌, ◌≤◌, ◌<◌, ◌+◌}
+use Rattle.std.proofs.Common.{◌-◌, ◌*◌, ◌/◌, ◌%◌, ◌⊎◌, inl, inr, refl, sym, ◌∙◌, ap, subst, arith, length, get_or}
 use Rattle.std.specs.List.{All}
 use Rattle.std.proofs.lemmas.Bool.{cases_lt, lt-ltb, le-ltb}
 use Rattle.std.proofs.lemmas.Bool.Decides.{eqb_tells}
@@ -8,7 +15,8 @@ use Rattle.ideal_tri.specs.Labels.{inverse, edge_of}
 use Rattle.ideal_tri.specs.Triangulations.{IsLabel, edge_count, next}
 use Rattle.ideal_tri.specs.Refusals.{IsDistinct}
 use Rattle.ideal_tri.specs.SurfaceLaws.{TriangleLaws}
-use Rattle.ideal_tri.specs.Vertices.{rank, label_of_rank, corner_step, corner_after, IsSameVertex, least_label, least_within, least_corner}
+use Rattle.ideal_tri.specs.Vertices.{rank, label_of_rank, corner_step, corner_after, IsSameVertex, least_label}
+use Rattle.ideal_tri.specs.Vertices.{least_within, least_corner}
 use Rattle.ideal_tri.proofs.Labels.{inverse-inverse, inverse_label, same_or_not}
 use Rattle.ideal_tri.proofs.Counting.{no_more_than_labels}
 
@@ -17,8 +25,12 @@ use Rattle.ideal_tri.proofs.Counting.{no_more_than_labels}
 pub rank-label_of_rank : (k : ℕ) → rank (label_of_rank k) ≡ k
 rank-label_of_rank k =
     elim (eqb_tells (k % 2) 0) [
-      | inl h ↦ (let even : k % 2 ≡ 0 = h.1 in ap (λ (b : Bool). rank (cond b (pos (k / 2)) (negsuc (k / 2)))) h.0 ∙ omega arith)
-      | inr h ↦ (let odd : k % 2 ≢ 0 = h.1 in ap (λ (b : Bool). rank (cond b (pos (k / 2)) (negsuc (k / 2)))) h.0 ∙ omega arith)
+      | inl h ↦
+          (let even : k % 2 ≡ 0 = h.1 in
+          ap (λ (b : Bool). rank (cond b (pos (k / 2)) (negsuc (k / 2)))) h.0 ∙ omega arith)
+      | inr h ↦
+          (let odd : k % 2 ≢ 0 = h.1 in
+          ap (λ (b : Bool). rank (cond b (pos (k / 2)) (negsuc (k / 2)))) h.0 ∙ omega arith)
     ]
 
 pub label_of_rank-rank : (x : ℤ) → label_of_rank (rank x) ≡ x
@@ -54,15 +66,18 @@ corner_step-injective ts h x y l m e =
     let same : next ts x ≡ next ts y = sym (inverse-inverse (next ts x)) ∙ ap inverse e ∙ inverse-inverse (next ts y) in
     sym (h.round x l) ∙ ap (λ (z : ℤ). next ts (next ts z)) same ∙ h.round y m
 
-pub corner_after_label : (ts : List (List ℤ)) → TriangleLaws ts → (n : ℕ) (x : ℤ) → IsLabel ts x → IsLabel ts (corner_after ts n x)
+pub corner_after_label : (ts : List (List ℤ)) → TriangleLaws ts → (n : ℕ) (x : ℤ) → IsLabel ts x
+    → IsLabel ts (corner_after ts n x)
 corner_after_label ts h zero x l = l
 corner_after_label ts h (suc n) x l = corner_after_label ts h n (corner_step ts x) (corner_step_label ts h x l)
 
-pub corner_after-suc : (ts : List (List ℤ)) (n : ℕ) (x : ℤ) → corner_after ts (suc n) x ≡ corner_step ts (corner_after ts n x)
+pub corner_after-suc : (ts : List (List ℤ)) (n : ℕ) (x : ℤ)
+    → corner_after ts (suc n) x ≡ corner_step ts (corner_after ts n x)
 corner_after-suc ts zero x = refl
 corner_after-suc ts (suc n) x = corner_after-suc ts n (corner_step ts x)
 
-pub corner_after-add : (ts : List (List ℤ)) (m n : ℕ) (x : ℤ) → corner_after ts (m + n) x ≡ corner_after ts n (corner_after ts m x)
+pub corner_after-add : (ts : List (List ℤ)) (m n : ℕ) (x : ℤ)
+    → corner_after ts (m + n) x ≡ corner_after ts n (corner_after ts m x)
 corner_after-add ts zero n x =
     let none : zero + n ≡ n = omega arith in
     ap (λ (k : ℕ). corner_after ts k x) none
@@ -75,7 +90,8 @@ corner_after-injective : (ts : List (List ℤ)) → TriangleLaws ts → (n : ℕ
 corner_after-injective ts h zero x y l m e = e
 corner_after-injective ts h (suc n) x y l m e =
     corner_step-injective ts h x y l m
-    (corner_after-injective ts h n (corner_step ts x) (corner_step ts y) (corner_step_label ts h x l) (corner_step_label ts h y m) e)
+    (corner_after-injective ts h n (corner_step ts x) (corner_step ts y) (corner_step_label ts h x l)
+    (corner_step_label ts h y m) e)
 
 -- ---- it comes back within as many steps as there are labels
 
@@ -109,7 +125,9 @@ back_or_not ts x (suc n) =
       | inr h ↦
           elim (same_or_not (corner_after ts (suc n) x) x) [
             | inl e ↦ inl (n, omega arith, e)
-            | inr ne ↦ inr (λ k b. elim (below_or_last k n b) [ inl c ↦ h k c | inr e ↦ subst (λ (i : ℕ). corner_after ts (suc i) x ≢ x) (sym e) ne ])
+            | inr ne ↦
+                inr (λ k b. elim (below_or_last k n b)
+                [ inl c ↦ h k c | inr e ↦ subst (λ (i : ℕ). corner_after ts (suc i) x ≢ x) (sym e) ne ])
           ]
     ]
   where
@@ -122,14 +140,16 @@ corners_apart : (ts : List (List ℤ)) → TriangleLaws ts → (x : ℤ) → IsL
 corners_apart ts h x l n none i j order below same =
     let long : length (corners ts (suc n) x) ≡ suc n = corners-length ts (suc n) x in
     let within : j < suc n = omega arith in
-    let first : get_or (corners ts (suc n) x) i (pos 0) ≡ corner_after ts i x = corners-at ts (suc n) i x (omega arith) in
+    let first : get_or (corners ts (suc n) x) i (pos 0) ≡ corner_after ts i x =
+    corners-at ts (suc n) i x (omega arith) in
     let second : get_or (corners ts (suc n) x) j (pos 0) ≡ corner_after ts j x = corners-at ts (suc n) j x within in
     let whole : j ≡ suc (j - suc i) + i = omega arith in
     let split : corner_after ts j x ≡ corner_after ts i (corner_after ts (suc (j - suc i)) x) =
     ap (λ (k : ℕ). corner_after ts k x) whole ∙ corner_after-add ts (suc (j - suc i)) i x in
     none (j - suc i) (omega arith)
     (sym
-    (corner_after-injective ts h i x (corner_after ts (suc (j - suc i)) x) l (corner_after_label ts h (suc (j - suc i)) x l)
+    (corner_after-injective ts h i x (corner_after ts (suc (j - suc i)) x) l
+    (corner_after_label ts h (suc (j - suc i)) x l)
     (sym first ∙ same ∙ second ∙ split)))
 
 corners_are_labels : (ts : List (List ℤ)) → TriangleLaws ts → (x : ℤ) → IsLabel ts x → (n : ℕ)
@@ -137,14 +157,16 @@ corners_are_labels : (ts : List (List ℤ)) → TriangleLaws ts → (x : ℤ) �
 corners_are_labels ts h x l n =
     All-from_get_or (λ y. edge_of y < edge_count ts) (corners ts n x) (pos 0) (λ k b.
     let long : length (corners ts n x) ≡ n = corners-length ts n x in
-    subst (λ (y : ℤ). edge_of y < edge_count ts) (sym (corners-at ts n k x (omega arith))) (corner_after_label ts h k x l))
+    subst (λ (y : ℤ). edge_of y < edge_count ts) (sym (corners-at ts n k x (omega arith)))
+    (corner_after_label ts h k x l))
 
 pub turn : (ts : List (List ℤ)) → TriangleLaws ts → (x : ℤ) → IsLabel ts x → Turn ts x
 turn ts h x l =
     elim (back_or_not ts x (2 * edge_count ts)) [
       | inl b ↦ record { last = b.0; short = b.1; closes = b.2 }
       | inr none ↦
-          (let long : length (corners ts (suc (2 * edge_count ts)) x) ≡ suc (2 * edge_count ts) = corners-length ts (suc (2 * edge_count ts)) x in
+          (let long : length (corners ts (suc (2 * edge_count ts)) x) ≡ suc (2 * edge_count ts) =
+          corners-length ts (suc (2 * edge_count ts)) x in
           let few : length (corners ts (suc (2 * edge_count ts)) x) ≤ 2 * edge_count ts =
           no_more_than_labels (corners ts (suc (2 * edge_count ts)) x) (edge_count ts)
           (corners_are_labels ts h x l (suc (2 * edge_count ts))) (corners_apart ts h x l (2 * edge_count ts) none) in
@@ -152,7 +174,8 @@ turn ts h x l =
     ]
 
 -- each corner of the turn comes within its length
-pub in_turn : (ts : List (List ℤ)) (x : ℤ) (t : Turn ts x) (n : ℕ) → (m : ℕ) × (m ≤ t.last) × (corner_after ts m x ≡ corner_after ts n x)
+pub in_turn : (ts : List (List ℤ)) (x : ℤ) (t : Turn ts x) (n : ℕ)
+    → (m : ℕ) × (m ≤ t.last) × (corner_after ts m x ≡ corner_after ts n x)
 in_turn ts x t zero = (0, omega arith, refl)
 in_turn ts x t (suc n) = more (in_turn ts x t n)
   where
@@ -174,16 +197,19 @@ in_turn ts x t (suc n) = more (in_turn ts x t n)
 pub SameVertex-refl : (ts : List (List ℤ)) (x : ℤ) → IsSameVertex ts x x
 SameVertex-refl ts x = record { steps = 0; reached = refl }
 
-pub SameVertex-trans : (ts : List (List ℤ)) (x y z : ℤ) → IsSameVertex ts x y → IsSameVertex ts y z → IsSameVertex ts x z
+pub SameVertex-trans : (ts : List (List ℤ)) (x y z : ℤ) → IsSameVertex ts x y → IsSameVertex ts y z
+    → IsSameVertex ts x z
 SameVertex-trans ts x y z a b = record {
   steps = a.steps + b.steps;
   reached = corner_after-add ts a.steps b.steps x ∙ ap (corner_after ts b.steps) a.reached ∙ b.reached;
 }
 
-pub SameVertex-sym : (ts : List (List ℤ)) → TriangleLaws ts → (x y : ℤ) → IsLabel ts x → IsSameVertex ts x y → IsSameVertex ts y x
+pub SameVertex-sym : (ts : List (List ℤ)) → TriangleLaws ts → (x y : ℤ) → IsLabel ts x → IsSameVertex ts x y
+    → IsSameVertex ts y x
 SameVertex-sym ts h x y l a = go (turn ts h x l)
   where
-    back : (t : Turn ts x) → (m : ℕ) × (m ≤ t.last) × (corner_after ts m x ≡ corner_after ts a.steps x) → IsSameVertex ts y x
+    back : (t : Turn ts x) → (m : ℕ) × (m ≤ t.last) × (corner_after ts m x ≡ corner_after ts a.steps x)
+        → IsSameVertex ts y x
     back t (m, b, e) =
         let whole : m + (suc t.last - m) ≡ suc t.last = omega arith in
         record {
@@ -198,13 +224,15 @@ SameVertex-sym ts h x y l a = go (turn ts h x l)
     go : Turn ts x → IsSameVertex ts y x
     go t = back t (in_turn ts x t a.steps)
 
-pub SameVertex_label : (ts : List (List ℤ)) → TriangleLaws ts → (x y : ℤ) → IsLabel ts x → IsSameVertex ts x y → IsLabel ts y
+pub SameVertex_label : (ts : List (List ℤ)) → TriangleLaws ts → (x y : ℤ) → IsLabel ts x → IsSameVertex ts x y
+    → IsLabel ts y
 SameVertex_label ts h x y l a = subst (IsLabel ts) a.reached (corner_after_label ts h a.steps x l)
 
 -- ---- the least corner
 
 -- either the second is less and is taken, or the first stays
-least_label_cases : (x y : ℤ) → ((rank y < rank x) × (least_label x y ≡ y)) ⊎ ((rank x ≤ rank y) × (least_label x y ≡ x))
+least_label_cases : (x y : ℤ)
+    → ((rank y < rank x) × (least_label x y ≡ y)) ⊎ ((rank x ≤ rank y) × (least_label x y ≡ x))
 least_label_cases x y =
     elim (cases_lt (rank y) (rank x)) [
       | inl b ↦ inl (b, ap (λ (t : Bool). cond t y x) (lt-ltb (rank y) (rank x) b))
@@ -216,13 +244,19 @@ least_label-assoc x y z =
     elim (least_label_cases y z) [
       | inl a ↦
           elim (least_label_cases x y) [
-            | inl b ↦ ap (least_label x) a.1 ∙ taken x z (omega (arith, a.0, b.0)) ∙ sym (ap (λ (v : ℤ). least_label v z) b.1 ∙ a.1)
+            | inl b ↦
+                ap (least_label x) a.1
+                ∙ taken x z (omega (arith, a.0, b.0))
+                ∙ sym (ap (λ (v : ℤ). least_label v z) b.1 ∙ a.1)
             | inr b ↦ ap (least_label x) a.1 ∙ sym (ap (λ (v : ℤ). least_label v z) b.1)
           ]
       | inr a ↦
           elim (least_label_cases x y) [
             | inl b ↦ ap (least_label x) a.1 ∙ b.1 ∙ sym (ap (λ (v : ℤ). least_label v z) b.1 ∙ a.1)
-            | inr b ↦ ap (least_label x) a.1 ∙ b.1 ∙ sym (ap (λ (v : ℤ). least_label v z) b.1 ∙ stays x z (omega (arith, a.0, b.0)))
+            | inr b ↦
+                ap (least_label x) a.1
+                ∙ b.1
+                ∙ sym (ap (λ (v : ℤ). least_label v z) b.1 ∙ stays x z (omega (arith, a.0, b.0)))
           ]
     ]
   where
@@ -251,7 +285,8 @@ least_within_there ts (suc n) x =
     later : {y : ℤ} → IsSameVertex ts (corner_step ts x) y → IsSameVertex ts x y
     later a = record { steps = suc a.steps; reached = a.reached }
 
-least_within_least : (ts : List (List ℤ)) (n k : ℕ) (x : ℤ) → k ≤ n → rank (least_within ts n x) ≤ rank (corner_after ts k x)
+least_within_least : (ts : List (List ℤ)) (n k : ℕ) (x : ℤ) → k ≤ n
+    → rank (least_within ts n x) ≤ rank (corner_after ts k x)
 least_within_least ts zero zero x b = omega arith
 least_within_least ts zero (suc k) x b = absurd (omega arith)
 least_within_least ts (suc n) zero x b =
@@ -274,7 +309,8 @@ pub least_corner_least : (ts : List (List ℤ)) → TriangleLaws ts → (x y : �
     → rank (least_corner ts x) ≤ rank y
 least_corner_least ts h x y l a = go (turn ts h x l)
   where
-    there : (t : Turn ts x) → (m : ℕ) × (m ≤ t.last) × (corner_after ts m x ≡ corner_after ts a.steps x) → rank (least_corner ts x) ≤ rank y
+    there : (t : Turn ts x) → (m : ℕ) × (m ≤ t.last) × (corner_after ts m x ≡ corner_after ts a.steps x)
+        → rank (least_corner ts x) ≤ rank y
     there t (m, b, e) =
         subst (λ (z : ℤ). rank (least_corner ts x) ≤ rank z) (e ∙ a.reached)
         (least_within_least ts (2 * edge_count ts) m x (omega (arith, t.short)))
@@ -282,7 +318,8 @@ least_corner_least ts h x y l a = go (turn ts h x l)
     go : Turn ts x → rank (least_corner ts x) ≤ rank y
     go t = there t (in_turn ts x t a.steps)
 
-pub least_corner_label : (ts : List (List ℤ)) → TriangleLaws ts → (x : ℤ) → IsLabel ts x → IsLabel ts (least_corner ts x)
+pub least_corner_label : (ts : List (List ℤ)) → TriangleLaws ts → (x : ℤ) → IsLabel ts x
+    → IsLabel ts (least_corner ts x)
 least_corner_label ts h x l = SameVertex_label ts h x (least_corner ts x) l (least_corner_there ts x)
 
 -- all corners of a vertex have the same least corner
@@ -291,7 +328,8 @@ pub least_corner_same : (ts : List (List ℤ)) → TriangleLaws ts → (x y : �
 least_corner_same ts h x y l a =
     let m : IsLabel ts y = SameVertex_label ts h x y l a in
     let one : rank (least_corner ts x) ≤ rank (least_corner ts y) =
-    least_corner_least ts h x (least_corner ts y) l (SameVertex-trans ts x y (least_corner ts y) a (least_corner_there ts y)) in
+    least_corner_least ts h x (least_corner ts y) l
+    (SameVertex-trans ts x y (least_corner ts y) a (least_corner_there ts y)) in
     let other : rank (least_corner ts y) ≤ rank (least_corner ts x) =
     least_corner_least ts h y (least_corner ts x) m
     (SameVertex-trans ts y x (least_corner ts x) (SameVertex-sym ts h x y l a) (least_corner_there ts x)) in
@@ -301,7 +339,8 @@ pub same_vertex_of_least : (ts : List (List ℤ)) → TriangleLaws ts → (x y :
     → least_corner ts x ≡ least_corner ts y → IsSameVertex ts x y
 same_vertex_of_least ts h x y l m e =
     SameVertex-trans ts x (least_corner ts x) y (least_corner_there ts x)
-    (subst (λ (z : ℤ). IsSameVertex ts z y) (sym e) (SameVertex-sym ts h y (least_corner ts y) m (least_corner_there ts y)))
+    (subst (λ (z : ℤ). IsSameVertex ts z y) (sym e)
+    (SameVertex-sym ts h y (least_corner ts y) m (least_corner_there ts y)))
 
 -- the least corner is its own
 pub least_corner_own : (ts : List (List ℤ)) → TriangleLaws ts → (x : ℤ) → IsLabel ts x
@@ -310,13 +349,15 @@ least_corner_own ts h x l = sym (least_corner_same ts h x (least_corner ts x) l 
 
 -- ---- one more step, as a loop makes it
 
-pub turned_more : (ts : List (List ℤ)) (n : ℕ) (x corner turned : ℤ) → corner ≡ corner_after ts n x → turned ≡ corner_step ts corner
+pub turned_more : (ts : List (List ℤ)) (n : ℕ) (x corner turned : ℤ) → corner ≡ corner_after ts n x
+    → turned ≡ corner_step ts corner
     → turned ≡ corner_after ts (n + 1) x
 turned_more ts n x corner turned e d =
     let more : suc n ≡ n + 1 = omega arith in
     d ∙ ap (corner_step ts) e ∙ sym (corner_after-suc ts n x) ∙ ap (λ (k : ℕ). corner_after ts k x) more
 
-pub least_more : (ts : List (List ℤ)) (n : ℕ) (x least turned lesser : ℤ) → least ≡ least_within ts n x → turned ≡ corner_after ts (n + 1) x
+pub least_more : (ts : List (List ℤ)) (n : ℕ) (x least turned lesser : ℤ) → least ≡ least_within ts n x
+    → turned ≡ corner_after ts (n + 1) x
     → lesser ≡ least_label least turned → lesser ≡ least_within ts (n + 1) x
 least_more ts n x least turned lesser e t d =
     let more : suc n ≡ n + 1 = omega arith in
@@ -326,7 +367,8 @@ least_more ts n x least turned lesser e t d =
     ∙ sym (least_within-suc ts n x)
     ∙ ap (λ (k : ℕ). least_within ts k x) more
 
-pub least_label_label : (ts : List (List ℤ)) (x y lesser : ℤ) → lesser ≡ least_label x y → IsLabel ts x → IsLabel ts y → IsLabel ts lesser
+pub least_label_label : (ts : List (List ℤ)) (x y lesser : ℤ) → lesser ≡ least_label x y → IsLabel ts x → IsLabel ts y
+    → IsLabel ts lesser
 least_label_label ts x y lesser e l m =
     elim (least_label_cases x y) [
       | inl h ↦ subst (IsLabel ts) (sym (e ∙ h.1)) m

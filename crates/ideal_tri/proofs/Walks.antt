@@ -2,19 +2,21 @@
 use Rattle.std.proofs.Common.{ℕ, ℤ, List, [], ◌∷◌, ◌++◌, ◌≡◌, inl, inr, refl, sym, ◌∙◌, ap, subst}
 use Rattle.ideal_tri.specs.Labels.{inverse}
 use Rattle.ideal_tri.specs.Words.{inverse_word, push, act, reduce}
-use Rattle.ideal_tri.specs.Triangulations.{IsLabel, IsWalk, triangle_of}
+use Rattle.ideal_tri.specs.Triangulations.{IsLabel, IsWalk, IsReached, triangle_of}
 use Rattle.ideal_tri.specs.SurfaceLaws.{WalkLaws}
 use Rattle.ideal_tri.proofs.Labels.{inverse-inverse, inverse_label, same_or_not}
 use Rattle.ideal_tri.proofs.Reduction.{push-cancels, push-goes_on}
 
 -- ---- walks
 
-pub walks_join : (triples : List (List ℤ)) (r s t : ℕ) (u v : List ℤ) → IsWalk triples r u s → IsWalk triples s v t → IsWalk triples r (u ++ v) t
+pub walks_join : (triples : List (List ℤ)) (r s t : ℕ) (u v : List ℤ) → IsWalk triples r u s → IsWalk triples s v t
+    → IsWalk triples r (u ++ v) t
 walks_join triples r s t [] v h k = subst (λ (z : ℕ). IsWalk triples z v t) (sym h) k
 walks_join triples r s t (x ∷ u) v h k =
     (h.0, h.1, walks_join triples (triangle_of triples (inverse x)) s t u v h.2 k)
 
-pub walk_back : (triples : List (List ℤ)) (s t : ℕ) (w : List ℤ) → IsWalk triples s w t → IsWalk triples t (inverse_word w) s
+pub walk_back : (triples : List (List ℤ)) (s t : ℕ) (w : List ℤ) → IsWalk triples s w t
+    → IsWalk triples t (inverse_word w) s
 walk_back triples s t [] h = sym h
 walk_back triples s t (x ∷ w) h =
     walks_join triples t (triangle_of triples (inverse x)) s (inverse_word w) (inverse x ∷ [])
@@ -28,15 +30,37 @@ walk-push triples s t x [] l e h = (l, e, h)
 walk-push triples s t x (y ∷ w) l e h =
     elim (same_or_not y (inverse x)) [
       | inl c ↦
-          (let back : triangle_of triples (inverse y) ≡ s = ap (λ (z : ℤ). triangle_of triples (inverse z)) c ∙ ap (triangle_of triples) (inverse-inverse x) ∙ e in
-          subst (λ (z : List ℤ). IsWalk triples s z t) (sym (push-cancels x y w c)) (subst (λ (k : ℕ). IsWalk triples k w t) back h.2))
+          (let back : triangle_of triples (inverse y) ≡ s =
+          ap (λ (z : ℤ). triangle_of triples (inverse z)) c ∙ ap (triangle_of triples) (inverse-inverse x) ∙ e in
+          subst (λ (z : List ℤ). IsWalk triples s z t) (sym (push-cancels x y w c))
+          (subst (λ (k : ℕ). IsWalk triples k w t) back h.2))
       | inr ne ↦ subst (λ (z : List ℤ). IsWalk triples s z t) (sym (push-goes_on x y w ne)) (l, e, h)
     ]
 
-pub walk-reduce : (triples : List (List ℤ)) (s t : ℕ) (w : List ℤ) → IsWalk triples s w t → IsWalk triples s (reduce w) t
+pub walk-reduce : (triples : List (List ℤ)) (s t : ℕ) (w : List ℤ) → IsWalk triples s w t
+    → IsWalk triples s (reduce w) t
 walk-reduce triples s t [] h = h
 walk-reduce triples s t (x ∷ w) h =
     walk-push triples s t x (act w []) h.0 h.1 (walk-reduce triples (triangle_of triples (inverse x)) t w h.2)
+
+-- ---- triangles that a walk joins
+
+pub reached_here : (triples : List (List ℤ)) (s t : ℕ) → s ≡ t → IsReached triples s t
+reached_here triples s t e = record { letters = []; walk = e }
+
+pub reached_step : (triples : List (List ℤ)) (x : ℤ) → IsLabel triples x
+    → IsReached triples (triangle_of triples x) (triangle_of triples (inverse x))
+reached_step triples x l = record { letters = x ∷ []; walk = (l, refl, refl) }
+
+pub reached_along : (triples : List (List ℤ)) (r s t : ℕ) → IsReached triples r s → IsReached triples s t
+    → IsReached triples r t
+reached_along triples r s t u v = record {
+  letters = u.letters ++ v.letters;
+  walk = walks_join triples r s t u.letters v.letters u.walk v.walk;
+}
+
+pub reached_back : (triples : List (List ℤ)) (s t : ℕ) → IsReached triples s t → IsReached triples t s
+reached_back triples s t u = record { letters = inverse_word u.letters; walk = walk_back triples s t u.letters u.walk }
 
 -- ---- the laws
 

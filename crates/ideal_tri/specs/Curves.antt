@@ -17,7 +17,8 @@ same_word u v = pointwise int_eq u v
 -- some split of front ++ rest, not before front, gives v when its parts change places
 abbrev pub turns_into : List ℤ → List ℤ → List ℤ → Bool
 turns_into front [] v = same_word front v
-turns_into front (x ∷ rest) v = same_word ((x ∷ rest) ++ front) v || turns_into (front ++ (x ∷ [])) rest v
+turns_into front (x ∷ rest) v =
+    same_word ((x ∷ rest) ++ front) v || turns_into (front ++ (x ∷ [])) rest v
 
 -- the test of IsRotation
 abbrev pub is_rotation : List ℤ → List ℤ → Bool

@@ -1,5 +1,6 @@
 -- What holds of the drawings of a vector, and of lists of closed words.
-use Rattle.std.specs.Prelude.{◌≡◌, ◌<◌, ◌+◌, ◌↔◌, ◌++◌, ℕ, ℤ, List, [], length, map, slice_index, All}
+use Rattle.std.specs.Prelude.{◌≡◌, ◌<◌, ◌+◌, ◌↔◌, ◌++◌, ℕ, ℤ, List, [], length, map, slice_index}
+use Rattle.std.specs.Prelude.{All}
 use Rattle.std.specs.List.{AllZip}
 use Rattle.ideal_tri.specs.Words.{IsCyclicallyReduced}
 use Rattle.ideal_tri.specs.Curves.{IsSameCurve, IsSameCurves, crossings}

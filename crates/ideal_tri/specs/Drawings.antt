@@ -1,5 +1,6 @@
 -- The drawing of a vector whose curves begin at their least strands and stand in rising order.
-use Rattle.std.specs.Prelude.{◌≡◌, ◌≤◌, ◌+◌, ◌-◌, ◌*◌, ℕ, zero, suc, ℤ, pos, negsuc, List, [], ◌∷◌, ◌++◌, length, map, filter, sum, take, slice_index, Bool, nat_le, All}
+use Rattle.std.specs.Prelude.{◌≡◌, ◌≤◌, ◌+◌, ◌-◌, ◌*◌, ℕ, zero, suc, ℤ, pos, negsuc, List, [], ◌∷◌}
+use Rattle.std.specs.Prelude.{◌++◌, length, map, filter, sum, take, slice_index, Bool, nat_le, All}
 use Rattle.std.specs.List.{range_with_len, list_all, before_first}
 use Rattle.std.specs.List.Sorted.{IsStrictlyIncreasing}
 use Rattle.ideal_tri.specs.Labels.{edge_of}

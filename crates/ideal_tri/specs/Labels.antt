@@ -10,3 +10,8 @@ inverse (negsuc n) = pos n
 abbrev pub edge_of : ℤ → ℕ
 edge_of (pos n) = n
 edge_of (negsuc n) = n
+
+-- x, or its inverse where the sign is that of -1, -2, ..
+abbrev pub with_sign_of : ℤ → ℤ → ℤ
+with_sign_of (pos n) x = x
+with_sign_of (negsuc n) x = inverse x

@@ -1,5 +1,6 @@
 -- The curves of a vector that run round vertices, and the vector without them.
-use Rattle.std.specs.Prelude.{◌≡◌, ◌≢◌, ◌-◌, ◌*◌, ℕ, zero, suc, ℤ, pos, negsuc, List, [], map, min, slice_index, All}
+use Rattle.std.specs.Prelude.{◌≡◌, ◌≢◌, ◌-◌, ◌*◌, ℕ, zero, suc, ℤ, pos, negsuc, List, [], map, min}
+use Rattle.std.specs.Prelude.{slice_index, All}
 use Rattle.std.specs.List.{range_with_len}
 use Rattle.ideal_tri.specs.Triangulations.{IsLabel, edge_count}
 use Rattle.ideal_tri.specs.Vectors.{corner_count}

@@ -1,8 +1,10 @@
 -- What holds of the steps of strands, and of the curves from them on.
-use Rattle.std.specs.Prelude.{◌≡◌, ◌≢◌, ◌≤◌, ◌<◌, ◌↔◌, ◌++◌, ℕ, ℤ, true, List, ◌∷◌, length, sum, All}
+use Rattle.std.specs.Prelude.{◌≡◌, ◌≢◌, ◌≤◌, ◌<◌, ◌↔◌, ◌++◌, ℕ, ℤ, true, List, ◌∷◌, length, sum}
+use Rattle.std.specs.Prelude.{All}
 use Rattle.std.specs.List.{flat_map}
 use Rattle.ideal_tri.specs.Vectors.{IsMulticurve}
-use Rattle.ideal_tri.specs.Strands.{State, IsStrand, strand_step, Runs, IsClosedRun, uses, IsDrawing}
+use Rattle.ideal_tri.specs.Strands.{State, IsStrand, strand_step, Runs, IsClosedRun, uses}
+use Rattle.ideal_tri.specs.Strands.{IsDrawing}
 use Rattle.ideal_tri.specs.Drawings.{strands, curve_from, is_least_of, curves_among}
 
 pub record StrandLaws (triples : List (List ℤ)) : Type 0 where

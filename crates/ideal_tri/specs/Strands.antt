@@ -1,5 +1,6 @@
--- Strands of a vector: how the arcs inside the triangles join, and the closed curves that they draw.
-use Rattle.std.specs.Prelude.{◌≡◌, ◌<◌, ◌+◌, ◌-◌, ◌&&◌, ℕ, ℤ, pos, List, [], ◌∷◌, length, map, Bool, nat_eq, nat_le, if◌then◌else◌, All}
+-- Strands of a vector: how the arcs inside the triangles join, and the closed curves they draw.
+use Rattle.std.specs.Prelude.{◌≡◌, ◌<◌, ◌+◌, ◌-◌, ◌&&◌, ℕ, ℤ, pos, List, [], ◌∷◌, length, map, Bool}
+use Rattle.std.specs.Prelude.{nat_eq, nat_le, if◌then◌else◌, All}
 use Rattle.std.specs.List.{count_by, flat_map}
 use Rattle.std.specs.Ordering.{int_eq}
 use Rattle.ideal_tri.specs.Labels.{inverse}
@@ -27,15 +28,16 @@ same_state q r = int_eq q.label r.label && nat_eq q.place r.place
 abbrev pub opposite : List ℕ → State → State
 opposite w q = state_at (inverse q.label) (weight w q.label - 1 - q.place)
 
--- through the triangle of the side, from that strand to the side where it leaves. Strands within the corner at the tail
--- of the side turn to the side before; all others go on to the side after
+-- through the triangle of the side, from that strand to the side where it leaves. Strands within
+-- the corner at the tail of the side turn to the side before; all others go on to the side after
 abbrev pub cross : List (List ℤ) → List ℕ → State → State
 cross triples w q =
     if nat_le (corner_count triples w (previous triples q.label)) q.place
     then state_at (next triples q.label) (weight w q.label - 1 - q.place)
     else state_at (previous triples q.label) (weight w (previous triples q.label) - 1 - q.place)
 
--- out of the triangle through the side, and through the next triangle to the side where the strand leaves that
+-- out of the triangle through the side, and through the next triangle to the side where the strand
+-- leaves that
 abbrev pub strand_step : List (List ℤ) → List ℕ → State → State
 strand_step triples w q = cross triples w (opposite w q)
 
@@ -56,9 +58,11 @@ abbrev pub uses : List ℕ → State → List State → ℕ
 uses w q run = count_by (same_state q) run + count_by (same_state (opposite w q)) run
 
 -- closed curves that use each strand of the vector once
-pub record IsDrawing (triples : List (List ℤ)) (w : List ℕ) (runs : List (List State)) : Type 0 where
+pub record IsDrawing (triples : List (List ℤ)) (w : List ℕ) (runs : List (List State))
+    : Type 0 where
   pub closed : All (IsClosedRun triples w) runs
-  pub once : (e i : ℕ) → e < edge_count triples → i < weight w (pos e) → uses w (state_at (pos e) i) (flat_map (λ run. run) runs) ≡ 1
+  pub once : (e i : ℕ) → e < edge_count triples → i < weight w (pos e)
+      → uses w (state_at (pos e) i) (flat_map (λ run. run) runs) ≡ 1
 
 -- the letters that a run crosses
 abbrev pub word_of : List State → List ℤ

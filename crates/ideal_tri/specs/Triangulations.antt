@@ -1,5 +1,6 @@
 -- Ideal triangulations as lists of triples of labels, and walks on them.
-use Rattle.std.specs.Prelude.{◌≡◌, ◌<◌, ◌*◌, ◌/◌, ℕ, suc, ℤ, Bool, List, [], ◌∷◌, length, cond, nat_lt, if◌then◌else◌, All}
+use Rattle.std.specs.Prelude.{◌≡◌, ◌<◌, ◌*◌, ◌/◌, ℕ, suc, ℤ, Bool, List, [], ◌∷◌, length, cond}
+use Rattle.std.specs.Prelude.{nat_lt, if◌then◌else◌, All}
 use Rattle.std.specs.List.{flat_map, count_by, list_any}
 use Rattle.std.specs.Ordering.{int_eq}
 use Rattle.ideal_tri.specs.Labels.{inverse, edge_of}
@@ -49,20 +50,28 @@ next (t ∷ triples) x = if has_side x t then next_in t x else next triples x
 abbrev pub previous : List (List ℤ) → ℤ → ℤ
 previous triples x = next triples (next triples x)
 
--- a walk on the dual graph from triangle s to triangle t: each letter x is a step from the triangle of x to that of inverse x
+-- a walk on the dual graph from triangle s to triangle t: each letter x is a step from the triangle
+-- of x to that of inverse x
 abbrev pub IsWalk : List (List ℤ) → ℕ → List ℤ → ℕ → Type 0
 IsWalk triples s [] t = s ≡ t
-IsWalk triples s (x ∷ w) t = IsLabel triples x × (triangle_of triples x ≡ s) × IsWalk triples (triangle_of triples (inverse x)) w t
+IsWalk triples s (x ∷ w) t =
+    IsLabel triples x × (triangle_of triples x ≡ s)
+    × IsWalk triples (triangle_of triples (inverse x)) w t
 
--- the triangle can be reached from triangle 0
-pub record IsReached (triples : List (List ℤ)) (t : ℕ) : Type 0 where
+-- a walk goes from triangle s to triangle t
+pub record IsReached (triples : List (List ℤ)) (s t : ℕ) : Type 0 where
   pub letters : List ℤ
-  pub walk : IsWalk triples 0 letters t
+  pub walk : IsWalk triples s letters t
 
--- a connected gluing of triangles, along each edge once
+-- a gluing of triangles, along each edge once
 pub record IsTriangulation (triples : List (List ℤ)) : Type 0 where
   pub some : 0 < length triples
   pub three_sides : All (λ t. length t ≡ 3) triples
   pub edges : 2 * edge_count triples ≡ 3 * length triples
-  pub labels : (x : ℤ) → count_by (λ y. int_eq y x) (labels_of triples) ≡ cond (nat_lt (edge_of x) (edge_count triples)) 1 0
-  pub connected : (t : ℕ) → t < length triples → IsReached triples t
+  pub labels : (x : ℤ)
+      → count_by (λ y. int_eq y x) (labels_of triples)
+      ≡ cond (nat_lt (edge_of x) (edge_count triples)) 1 0
+
+-- each triangle can be reached from triangle 0
+pub record IsConnected (triples : List (List ℤ)) : Type 0 where
+  pub reached : (t : ℕ) → t < length triples → IsReached triples 0 t

@@ -1,5 +1,6 @@
 -- Vectors with one number per edge, and the integral multicurves among them (normal coordinates).
-use Rattle.std.specs.Prelude.{◌≡◌, ◌≤◌, ◌+◌, ◌-◌, ◌/◌, ◌%◌, ℕ, ℤ, List, [], ◌∷◌, length, slice_index, All}
+use Rattle.std.specs.Prelude.{◌≡◌, ◌≤◌, ◌+◌, ◌-◌, ◌/◌, ◌%◌, ℕ, ℤ, List, [], ◌∷◌, length}
+use Rattle.std.specs.Prelude.{slice_index, All}
 use Rattle.ideal_tri.specs.Labels.{edge_of}
 use Rattle.ideal_tri.specs.Triangulations.{edge_count, next, previous}
 
@@ -15,7 +16,8 @@ IsEven w _ = Unit {0}
 -- none of the three numbers at a triangle is greater than the sum of the other two
 abbrev pub HasNoLongSide : List ℕ → List ℤ → Type 0
 HasNoLongSide w (a ∷ (b ∷ (c ∷ []))) =
-    (weight w a ≤ weight w b + weight w c) × (weight w b ≤ weight w a + weight w c) × (weight w c ≤ weight w a + weight w b)
+    (weight w a ≤ weight w b + weight w c) × (weight w b ≤ weight w a + weight w c)
+    × (weight w c ≤ weight w a + weight w b)
 HasNoLongSide w _ = Unit {0}
 
 -- the crossing numbers of a multicurve
@@ -26,4 +28,5 @@ pub record IsMulticurve (triples : List (List ℤ)) (w : List ℕ) : Type 0 wher
 
 -- how many strands run round the corner between x and the side after it
 abbrev pub corner_count : List (List ℤ) → List ℕ → ℤ → ℕ
-corner_count triples w x = (weight w x + weight w (next triples x) - weight w (previous triples x)) / 2
+corner_count triples w x =
+    (weight w x + weight w (next triples x) - weight w (previous triples x)) / 2

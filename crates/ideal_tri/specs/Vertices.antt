@@ -1,9 +1,11 @@
 -- The vertices (punctures) of a triangulation, found by turning round its corners, and the genus.
-use Rattle.std.specs.Prelude.{◌≡◌, ◌+◌, ◌-◌, ◌*◌, ◌/◌, ◌%◌, ◌==◌, ℕ, zero, suc, ℤ, pos, negsuc, List, length, map, filter, position, nat_lt, unwrap_or, if◌then◌else◌}
+use Rattle.std.specs.Prelude.{◌≡◌, ◌+◌, ◌-◌, ◌*◌, ◌/◌, ◌%◌, ◌==◌, ℕ, zero, suc, ℤ, pos, negsuc}
+use Rattle.std.specs.Prelude.{List, length, map, filter, position, nat_lt, unwrap_or, if◌then◌else◌}
 use Rattle.std.specs.List.{range_with_len}
 use Rattle.std.specs.Ordering.{int_eq}
 use Rattle.ideal_tri.specs.Labels.{inverse}
 use Rattle.ideal_tri.specs.Triangulations.{edge_count, next}
+use Rattle.ideal_tri.specs.Components.{component_count}
 
 -- ---- the order of labels: 0, -1, 1, -2, 2 and so on
 
@@ -55,15 +57,19 @@ first_corners triples = filter (λ x. int_eq (least_corner triples x) x) (ordere
 
 -- those among the labels of rank less than k
 abbrev pub first_corners_below : List (List ℤ) → ℕ → List ℤ
-first_corners_below triples k = filter (λ x. int_eq (least_corner triples x) x) (map label_of_rank (range_with_len 0 k))
+first_corners_below triples k =
+    filter (λ x. int_eq (least_corner triples x) x) (map label_of_rank (range_with_len 0 k))
 
 -- the number of the vertex at the corner x: how many first corners come before its least one
 abbrev pub vertex_of : List (List ℤ) → ℤ → ℕ
-vertex_of triples x = unwrap_or (position (λ y. int_eq y (least_corner triples x)) (first_corners triples)) 0
+vertex_of triples x =
+    unwrap_or (position (λ y. int_eq y (least_corner triples x)) (first_corners triples)) 0
 
 abbrev pub vertex_count : List (List ℤ) → ℕ
 vertex_count triples = length (first_corners triples)
 
--- from the Euler characteristic of the closed surface: vertices - edges + triangles = 2 - 2 genus
+-- the sum of the components' genera, from the Euler characteristic of the closed surface with C
+-- components: vertices - edges + triangles = 2 C - 2 genus
 abbrev pub genus : List (List ℤ) → ℕ
-genus triples = (2 + edge_count triples - length triples - vertex_count triples) / 2
+genus triples =
+    (2 * component_count triples + edge_count triples - length triples - vertex_count triples) / 2

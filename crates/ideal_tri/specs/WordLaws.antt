@@ -1,13 +1,35 @@
--- What holds of the reduction of words, and of closed words.
-use Rattle.std.specs.Prelude.{◌≡◌, ◌↔◌, ℤ, List, ◌++◌, true}
-use Rattle.ideal_tri.specs.Words.{inverse_word, IsReduced, reduce, Deletes, DeletesAll, IsRotation, IsCyclicallyReduced, cyclic_reduce}
+-- What holds of words and their inverses, of their reduction, and of closed words.
+use Rattle.std.specs.Prelude.{◌≡◌, ◌↔◌, ℤ, List, ◌++◌, length, map, true, All}
+use Rattle.ideal_tri.specs.Triangulations.{IsLabel}
+use Rattle.ideal_tri.specs.Words.{inverse_word, IsReduced, reduce, Deletes, DeletesAll, IsRotation}
+use Rattle.ideal_tri.specs.Words.{IsCyclicallyReduced, cyclic_reduce}
 use Rattle.ideal_tri.specs.Curves.{IsSameCurve, is_rotation, is_same_curve}
+
+-- the way back along a word
+pub record InverseLaws : Type 0 where
+  pub append : (u v : List ℤ) → inverse_word (u ++ v) ≡ inverse_word v ++ inverse_word u
+  pub twice : (w : List ℤ) → inverse_word (inverse_word w) ≡ w
+  pub as_long : (w : List ℤ) → length (inverse_word w) ≡ length w
+  pub labels : (triples : List (List ℤ)) (w : List ℤ) → All (IsLabel triples) w
+      → All (IsLabel triples) (inverse_word w)
+
+-- rotations of words are an equivalence, and go with inverses and maps of letters
+pub record RotationLaws : Type 0 where
+  pub same : (u : List ℤ) → IsRotation u u
+  pub back : (u v : List ℤ) → IsRotation u v → IsRotation v u
+  pub along : (u v w : List ℤ) → IsRotation u v → IsRotation v w → IsRotation u w
+  pub as_long : (u v : List ℤ) → IsRotation u v → length u ≡ length v
+  pub inverse : (u v : List ℤ) → IsRotation u v → IsRotation (inverse_word u) (inverse_word v)
+  pub mapped : (f : ℤ → ℤ) (u v : List ℤ) → IsRotation u v → IsRotation (map f u) (map f v)
 
 -- the free reduction is the one reduced word that deletions reach
 pub record ReductionLaws : Type 0 where
   pub is_reduced : (w : List ℤ) → IsReduced (reduce w)
   pub fixed : (w : List ℤ) → IsReduced w → reduce w ≡ w
+  pub twice : (w : List ℤ) → reduce (reduce w) ≡ reduce w
   pub append : (u v : List ℤ) → reduce (u ++ v) ≡ reduce (reduce u ++ reduce v)
+  pub left : (u v b : List ℤ) → reduce u ≡ reduce v → reduce (u ++ b) ≡ reduce (v ++ b)
+  pub right : (a u v : List ℤ) → reduce u ≡ reduce v → reduce (a ++ u) ≡ reduce (a ++ v)
   pub cancel : (a u b : List ℤ) → reduce (a ++ (u ++ (inverse_word u ++ b))) ≡ reduce (a ++ b)
   pub inverse : (w : List ℤ) → reduce (inverse_word w) ≡ inverse_word (reduce w)
   pub deletion : (v w : List ℤ) → Deletes v w → reduce v ≡ reduce w
@@ -19,10 +41,13 @@ pub record CyclicLaws : Type 0 where
   pub is_reduced : (w : List ℤ) → IsCyclicallyReduced (cyclic_reduce w)
   pub fixed : (w : List ℤ) → IsCyclicallyReduced w → cyclic_reduce w ≡ w
   pub shape : (w : List ℤ) → (p : List ℤ) × (reduce w ≡ p ++ (cyclic_reduce w ++ inverse_word p))
-  pub conjugate : (q u v : List ℤ) → reduce (inverse_word q ++ (u ++ q)) ≡ reduce v → IsRotation (cyclic_reduce u) (cyclic_reduce v)
-  pub conjugator : (u v : List ℤ) → IsRotation (cyclic_reduce u) (cyclic_reduce v) → (q : List ℤ) × (reduce (inverse_word q ++ (u ++ q)) ≡ reduce v)
+  pub conjugate : (q u v : List ℤ) → reduce (inverse_word q ++ (u ++ q)) ≡ reduce v
+      → IsRotation (cyclic_reduce u) (cyclic_reduce v)
+  pub conjugator : (u v : List ℤ) → IsRotation (cyclic_reduce u) (cyclic_reduce v)
+      → (q : List ℤ) × (reduce (inverse_word q ++ (u ++ q)) ≡ reduce v)
   pub rotation : (u v : List ℤ) → IsRotation u v → IsRotation (cyclic_reduce u) (cyclic_reduce v)
-  pub inverse : (w : List ℤ) → IsRotation (cyclic_reduce (inverse_word w)) (inverse_word (cyclic_reduce w))
+  pub inverse : (w : List ℤ)
+      → IsRotation (cyclic_reduce (inverse_word w)) (inverse_word (cyclic_reduce w))
 
 -- to run along the same curve is an equivalence, and decided by a test
 pub record CurveLaws : Type 0 where
@@ -32,3 +57,10 @@ pub record CurveLaws : Type 0 where
   pub back : (u v : List ℤ) → IsSameCurve u v → IsSameCurve v u
   pub along : (u v w : List ℤ) → IsSameCurve u v → IsSameCurve v w → IsSameCurve u w
   pub reduced : (u v : List ℤ) → IsSameCurve u v → IsSameCurve (cyclic_reduce u) (cyclic_reduce v)
+
+pub record WordLaws : Type 0 where
+  pub inverses : InverseLaws
+  pub rotations : RotationLaws
+  pub reduction : ReductionLaws
+  pub cyclic : CyclicLaws
+  pub curves : CurveLaws

@@ -1,12 +1,12 @@
 //! Labels: the two directions of each edge.
 ghost use Rattle.std.specs.Prelude.{◌≡◌};
-ghost use Rattle.ideal_tri.specs.Labels.{inverse, edge_of};
+ghost use Rattle.ideal_tri.specs.Labels.{inverse, edge_of, with_sign_of};
 
 use std::marker::Model;
 
-/// A directed edge of a triangulation (after Bell's flipper): edge `n` has the labels `n` and `-1 - n`.
-/// Labels mean nothing without their triangulation.
-#[derive(Clone, Copy, Debug, PartialEq, Eq)]
+/// A directed edge of a triangulation (after Bell's flipper): edge `n` has the labels `n` and
+/// `-1 - n`. Labels mean nothing without their triangulation.
+#[derive(Clone, Copy, Debug, Default, PartialEq, Eq)]
 pub struct Label(i32);
 
 impl Model for Label {
@@ -48,5 +48,13 @@ impl Label {
         let x = self.0;
         let number = if x < 0 { -1 - x } else { x };
         number as u32
+    }
+
+    /// The label itself, or its inverse where the number of `sign` is negative.
+    pub fn with_sign_of(self, sign: Label) -> Label
+        ensures value { result ≡ with_sign_of sign self }
+        ensures edge { edge_of result ≡ edge_of self }
+    {
+        if sign.0 < 0 { self.inverse() } else { self }
     }
 }

@@ -1,52 +1,59 @@
 //! Triangulations.
-ghost use Rattle.std.specs.Prelude.{◌≡◌, ◌≢◌, ◌<◌, ◌≤◌, ◌-◌, ◌/◌, ◌+◌, ◌*◌, ◌++◌, [], ◌∷◌, ◌⊎◌, ◌↔◌, ℕ, pos, false, true, length, slice_get, slice_index_or, Some, IfOk, IfErr, IfSome, IfNone, IsTrue, All};
+ghost use Rattle.std.specs.Prelude.{◌≡◌, ◌≢◌, ◌<◌, ◌≤◌, ◌-◌, ◌/◌, ◌+◌, ◌*◌, ◌++◌, [], ◌∷◌, ◌↔◌};
+ghost use Rattle.std.specs.Prelude.{length, slice_get, Some, IfOk, IfErr, IfSome, IfNone, IsTrue};
+ghost use Rattle.std.specs.Prelude.{All};
 ghost use Rattle.ideal_tri.specs.Labels.{inverse, edge_of};
-ghost use Rattle.ideal_tri.specs.Triangulations.{labels_of, edge_count, triangle_of, side_of, next, IsLabel, IsReached, IsTriangulation};
-ghost use Rattle.ideal_tri.specs.Refusals.{IsOfGoodSize, IsFirstOutside, IsFirstRepeated, IsLeastUnreached, IsRefusedFor};
-ghost use Rattle.ideal_tri.specs.Places.{key_of, with_places, neighbour, spare_triples, IsGlued};
+ghost use Rattle.ideal_tri.specs.Triangulations.{labels_of, edge_count, triangle_of, side_of, next};
+ghost use Rattle.ideal_tri.specs.Triangulations.{IsLabel, IsTriangulation, IsConnected};
+ghost use Rattle.ideal_tri.specs.Refusals.{IsOfGoodSize, IsFirstOutside, IsFirstRepeated};
+ghost use Rattle.ideal_tri.specs.Refusals.{IsRefusedGluing, IsRefusedFor};
+ghost use Rattle.ideal_tri.specs.inside.Places.{key_of, with_places, spare_triples, IsGlued};
 ghost use Rattle.ideal_tri.specs.Flips.{IsFlippable, flipped};
 
+use crate::component::first_unreached;
 use crate::label::Label;
 use std::marker::Model;
 
-// The most edges of a triangulation.
-const EDGES: u64 = 48;
+/// The most edges of a triangulation.
+pub const EDGES: usize = 48;
 
-// The most triangles of a triangulation: two for each three edges.
-const TRIANGLES: usize = 32;
+/// The most triangles of a triangulation: two for each three edges.
+pub(crate) const TRIANGLES: usize = 2 * EDGES / 3;
 
-// How many labels the most edges have: two for each.
-const LABELS: usize = 96;
+/// How many labels the most edges have: two for each.
+pub(crate) const LABELS: usize = 2 * EDGES;
 
-// The entry of a label that stands nowhere.
+/// The entry of a label that stands nowhere.
 const NOWHERE: u8 = 255;
 
-/// An ideal triangulation of a punctured surface (after Bell's flipper): at most 32 triangles and 48 edges, in fixed
-/// memory. Triangles are numbered from 0; the sides of each are numbered 0, 1 and 2, anticlockwise, and carry the labels
-/// by which they are glued: side `x` to side `-1 - x`. The triples of labels are kept in the order and the rotation in
-/// which they came.
+/// An ideal triangulation of a punctured surface (after Bell's flipper): at most 32 triangles and
+/// 48 edges, in one component or several, in fixed memory. Triangles are numbered from 0; the sides
+/// of each are numbered 0, 1 and 2, anticlockwise, and carry the labels by which they are glued:
+/// side `x` to side `-1 - x`. The triples of labels are kept in the order and the rotation in which
+/// they came.
 #[derive(Clone, Copy, Debug, PartialEq, Eq)]
 pub struct Tri {
     // the number of triangles
     count: u32,
     // the labels round each triangle; zeros after the last
     sides: [[Label; 3]; TRIANGLES],
-    // at `x + 48`, where `x` stands: three times its triangle's number, plus its side's
+    // at `x + EDGES`, where `x` stands: three times its triangle's number, plus its side's
     place: [u8; LABELS],
 }
 
-/// Why triples are no triangulation. The tests are made in this order, each over all triples before the next.
+/// Why triples are no triangulation. The tests are made in this order, each over all triples before
+/// the next.
 #[derive(Clone, Copy, Debug, PartialEq, Eq)]
 pub enum TriError {
     /// There is no triple.
     NoTriangle,
-    /// There are more than 48 edges; their number, three for each two triangles, rounded down.
+    /// There are more than `EDGES` edges; their number, three for each two triangles, rounded down.
     TooManyEdges(u64),
     /// The first label read that is none of `-n` to `n - 1`, with `n` edges.
     LabelRange(i32),
     /// The first label read a second time.
     LabelTwice(i32),
-    /// The least triangle that can't be reached from triangle 0.
+    /// The least triangle that can't be reached from triangle 0. Only `from_triples` gives it.
     Disconnected(u64),
 }
 
@@ -54,8 +61,9 @@ impl Model for Tri {
     ghost use Rattle.std.specs.Prelude.{ℤ, List, ◌++◌, ◌-◌, length, take};
     ghost use Rattle.std.proofs.Common.{sym};
     ghost use Rattle.ideal_tri.specs.Triangulations.{labels_of};
-    ghost use Rattle.ideal_tri.specs.Places.{IsLaidOut, spare_triples, places_of};
-    ghost use Rattle.ideal_tri.specs.LaidOut.{count_again, sides_again};
+    ghost use Rattle.ideal_tri.specs.inside.Places.{IsLaidOut, spare_triples, places_of};
+    ghost use Rattle.ideal_tri.specs.inside.LaidOut.{count_again, sides_again};
+    ghost use Rattle.ideal_tri.specs.declared.tri.TheConstants.{TRIANGLES};
 
     ghost Value = { List (List ℤ) };
 
@@ -65,7 +73,7 @@ impl Model for Tri {
 
     ghost inverse = { λ ts. record {
       count = length ts;
-      sides = ts ++ spare_triples (32 - length ts);
+      sides = ts ++ spare_triples (TRIANGLES - length ts);
       place = places_of (labels_of ts);
     } };
 
@@ -77,18 +85,39 @@ impl Model for Tri {
 }
 
 impl Tri {
-    /// The triangulation of these triples of labels, each anticlockwise round its triangle, up to rotation. With `n` edges,
-    /// three for each two triangles, the labels are those from `-n` to `n - 1`, each once.
+    /// The triangulation of these triples of labels, each anticlockwise round its triangle, up to
+    /// rotation. With `n` edges, three for each two triangles, the labels are those from `-n` to
+    /// `n - 1`, each once. Connection is tested last, so that all but `Disconnected` are the
+    /// refusals of `from_components`.
     pub fn from_triples(triples: &[[i32; 3]]) -> Result<Tri, TriError>
         ensures accepted { IfOk result (λ t. IsTriangulation triples.now × (t ≡ triples.now)) }
+        ensures connected { IfOk result IsConnected }
         ensures size { IfOk result (λ _. IsOfGoodSize triples.now) }
         ensures refused { IfErr result (IsRefusedFor triples.now) }
+        ensures exact { IfErr result (λ _. ¬ (IsOfGoodSize triples.now
+            × IsTriangulation triples.now × IsConnected triples.now)) }
+    {
+        let tri = Tri::from_components(triples)?;
+        match first_unreached(&tri) {
+            None => Ok(tri),
+            Some(t) => Err(TriError::Disconnected(u64::from(t))),
+        }
+    }
+
+    /// The triangulation of these triples, as `from_triples` takes them, where it may have several
+    /// components. The refusal is never `Disconnected`.
+    pub fn from_components(triples: &[[i32; 3]]) -> Result<Tri, TriError>
+        ensures accepted { IfOk result (λ t. IsTriangulation triples.now × (t ≡ triples.now)) }
+        ensures size { IfOk result (λ _. IsOfGoodSize triples.now) }
+        ensures refused { IfErr result (IsRefusedGluing triples.now) }
+        ensures exact { IfErr result (λ _. ¬ (IsOfGoodSize triples.now
+            × IsTriangulation triples.now)) }
     {
         if triples.is_empty() {
             return Err(TriError::NoTriangle);
         }
         let edges = edge_count(triples);
-        if edges > EDGES {
+        if edges > EDGES as u64 {
             return Err(TriError::TooManyEdges(edges));
         }
         if let Some(x) = first_outside(triples) {
@@ -98,9 +127,6 @@ impl Tri {
             Ok(place) => place,
             Err(x) => return Err(TriError::LabelTwice(x)),
         };
-        if let Some(t) = first_unreached(triples, &place) {
-            return Err(TriError::Disconnected(t as u64));
-        }
         Ok(Tri {
             count: triples.len() as u32,
             sides: copy_sides(triples),
@@ -108,7 +134,7 @@ impl Tri {
         })
     }
 
-    /// How many edges there are: three for each two triangles, at most 48.
+    /// How many edges there are: three for each two triangles, at most `EDGES`.
     pub fn edges(&self) -> u32
         ensures count { result ≡ edge_count self.now }
         ensures size { IsOfGoodSize self.now }
@@ -157,7 +183,8 @@ impl Tri {
         self.sides[triangle as usize][(side as usize + 1) % 3]
     }
 
-    /// Whether the edge of `x` has two triangles at it, so that it can be flipped. An edge within one triangle is folded.
+    /// Whether the edge of `x` has two triangles at it, so that it can be flipped. An edge within
+    /// one triangle is folded.
     pub fn flippable(&self, x: Label) -> bool
         requires { IsLabel self.now x }
         ensures { IsTrue result ↔ IsFlippable self.now x }
@@ -165,9 +192,10 @@ impl Tri {
         self.place(x).0 != self.place(x.inverse()).0
     }
 
-    /// The triangulation after the flip of the edge of `e`: where `~e` is the other direction of `e`, the triangles
-    /// `(e, a, b)` and `(~e, c, d)` become `(e, d, a)` and `(~e, b, c)`, in this rotation. They keep their numbers, and the
-    /// new edge has the number of the old one. But for one copy the work is the same for every triangulation.
+    /// The triangulation after the flip of the edge of `e`: where `~e` is the other direction of
+    /// `e`, the triangles `(e, a, b)` and `(~e, c, d)` become `(e, d, a)` and `(~e, b, c)`, in this
+    /// rotation. They keep their numbers, and the new edge has the number of the old one. But for
+    /// one copy the work is the same for every triangulation.
     pub fn flipped(&self, e: Label) -> Tri
         requires label { IsLabel self.now e }
         requires flippable { IsFlippable self.now e }
@@ -191,14 +219,14 @@ impl Tri {
     }
 }
 
-// Three edges for each two triangles, rounded down.
+/// Three edges for each two triangles, rounded down.
 fn edge_count(triples: &[[i32; 3]]) -> u64
     ensures { result ≡ edge_count triples.now }
 {
     3 * triples.len() as u64 / 2
 }
 
-// The first label read that is out of range.
+/// The first label read that is out of range.
 fn first_outside(triples: &[[i32; 3]]) -> Option<i32>
     ensures some { IfSome result (IsFirstOutside triples.now) }
     ensures none { IfNone result (All (IsLabel triples.now) (labels_of triples.now)) }
@@ -212,16 +240,16 @@ fn first_outside(triples: &[[i32; 3]]) -> Option<i32>
     None
 }
 
-// Where the place of a label is kept.
+/// Where the place of a label is kept.
 fn key(x: Label) -> usize
-    requires { edge_of x < 48 }
+    requires { edge_of x < EDGES }
     ensures key { result ≡ key_of x }
-    ensures room { result < 96 }
+    ensures room { result < LABELS }
 {
-    (x.get() + 48) as usize
+    (x.get() + EDGES as i32) as usize
 }
 
-// Where each label stands among all that are read, or the first label that is read a second time.
+/// Where each label stands among all that are read, or the first label that is read a second time.
 fn place_labels(triples: &[[i32; 3]]) -> Result<[u8; LABELS], i32>
     requires size { IsOfGoodSize triples.now }
     requires in_range { All (IsLabel triples.now) (labels_of triples.now) }
@@ -240,10 +268,10 @@ fn place_labels(triples: &[[i32; 3]]) -> Result<[u8; LABELS], i32>
     Ok(place)
 }
 
-// Writes down where the sides of a triangle stand.
+/// Writes down where the sides of a triangle stand.
 fn write_places(place: &mut [u8; LABELS], triangle: u32, x: Label, y: Label, z: Label)
-    requires triangle { triangle < 32 }
-    requires labels { (edge_of x < 48) × (edge_of y < 48) × (edge_of z < 48) }
+    requires triangle { triangle < TRIANGLES }
+    requires labels { (edge_of x < EDGES) × (edge_of y < EDGES) × (edge_of z < EDGES) }
     ensures { place.new ≡ with_places place.old (3 * triangle) (x ∷ y ∷ z ∷ []) }
 {
     let at = (3 * triangle) as u8;
@@ -252,89 +280,10 @@ fn write_places(place: &mut [u8; LABELS], triangle: u32, x: Label, y: Label, z: 
     place[key(z)] = at + 2;
 }
 
-// The triangle on the other side of a side.
-fn across(triples: &[[i32; 3]], place: &[u8; LABELS], triangle: usize, side: usize) -> usize
-    requires glued { IsGlued triples.now place.now }
-    requires triangle_in { triangle < length triples.now }
-    requires side_in { side < 3 }
-    ensures triangle { result ≡ neighbour triples.now triangle side }
-    ensures within { result < length triples.now }
-{
-    let x = Label::new(triples[triangle][side]);
-    usize::from(place[key(x.inverse())]) / 3
-}
-
-// Marks the triangles on the other sides of a triangle's sides.
-fn mark_neighbours(
-    triples: &[[i32; 3]],
-    place: &[u8; LABELS],
-    triangle: usize,
-    reached: &mut [bool; TRIANGLES],
-)
-    requires glued { IsGlued triples.now place.now }
-    requires triangle_in { triangle < length triples.now }
-    requires room { length reached.old ≡ 32 }
-    ensures room { length reached.new ≡ 32 }
-    ensures kept { (t : ℕ) → slice_index_or reached.old t false ≡ true → slice_index_or reached.new t false ≡ true }
-    ensures marked { (s : ℕ) → s < 3 → slice_index_or reached.new (neighbour triples.now triangle s) false ≡ true }
-    ensures only { (t : ℕ) → slice_index_or reached.new t false ≡ true → (slice_index_or reached.old t false ≡ true)
-        ⊎ ((s : ℕ) × (s < 3) × (t ≡ neighbour triples.now triangle s)) }
-{
-    for side in 0..3 {
-        reached[across(triples, place, triangle, side)] = true;
-    }
-}
-
-// The first of `count` triangles that is reached, but whose neighbours are not marked yet.
-fn first_open(reached: &[bool; TRIANGLES], done: &[bool; TRIANGLES], count: usize) -> Option<usize>
-    requires room { (length reached.now ≡ 32) × (length done.now ≡ 32) }
-    requires count { count ≤ 32 }
-    ensures some { IfSome result (λ t. (t < count) × (slice_index_or reached.now t false ≡ true) × (slice_index_or done.now t false ≡ false)) }
-    ensures none { IfNone result ((t : ℕ) → t < count → slice_index_or reached.now t false ≡ true → slice_index_or done.now t false ≡ true) }
-{
-    for t in 0..count {
-        if reached[t] && !done[t] {
-            return Some(t);
-        }
-    }
-    None
-}
-
-// Which triangles can be reached from triangle 0.
-fn reached_triangles(triples: &[[i32; 3]], place: &[u8; LABELS]) -> [bool; TRIANGLES]
-    requires glued { IsGlued triples.now place.now }
-    ensures room { length result ≡ 32 }
-    ensures reached { (t : ℕ) → t < length triples.now → (slice_index_or result t false ≡ true) ↔ IsReached triples.now t }
-{
-    let mut reached = [false; TRIANGLES];
-    let mut done = [false; TRIANGLES];
-    reached[0] = true;
-    while let Some(t) = first_open(&reached, &done, triples.len()) {
-        done[t] = true;
-        mark_neighbours(triples, place, t, &mut reached);
-    }
-    reached
-}
-
-// The least triangle that can't be reached from triangle 0.
-fn first_unreached(triples: &[[i32; 3]], place: &[u8; LABELS]) -> Option<usize>
-    requires glued { IsGlued triples.now place.now }
-    ensures some { IfSome result (IsLeastUnreached triples.now) }
-    ensures none { IfNone result ((t : ℕ) → t < length triples.now → IsReached triples.now t) }
-{
-    let reached = reached_triangles(triples, place);
-    for t in 0..triples.len() {
-        if !reached[t] {
-            return Some(t);
-        }
-    }
-    None
-}
-
-// The triples as labels, and zeros after them.
+/// The triples as labels, and zeros after them.
 fn copy_sides(triples: &[[i32; 3]]) -> [[Label; 3]; TRIANGLES]
-    requires { length triples.now ≤ 32 }
-    ensures { result ≡ triples.now ++ spare_triples (32 - length triples.now) }
+    requires { length triples.now ≤ TRIANGLES }
+    ensures { result ≡ triples.now ++ spare_triples (TRIANGLES - length triples.now) }
 {
     let mut sides = [[Label::new(0); 3]; TRIANGLES];
     for t in 0..triples.len() {

@@ -1,12 +1,16 @@
 //! Vertices (punctures) and the genus, found by turning round the corners of triangles.
 //!
-//! The corner named `x` lies at the head of the side `x`, between `x` and the side after it. Labels are ordered 0, -1, 1,
-//! -2, 2 and so on; each vertex is named by its least corner, and vertices are numbered in the order of these.
+//! The corner named `x` lies at the head of the side `x`, between `x` and the side after it. Labels
+//! are ordered 0, -1, 1, -2, 2 and so on; each vertex is named by its least corner, and vertices
+//! are numbered in the order of these.
 ghost use Rattle.std.specs.Prelude.{◌≡◌, ◌<◌, ◌≤◌, ◌*◌, length};
+ghost use Rattle.ideal_tri.specs.declared.tri.TheConstants.{EDGES, LABELS};
 ghost use Rattle.ideal_tri.specs.Labels.{edge_of};
 ghost use Rattle.ideal_tri.specs.Triangulations.{IsLabel, IsTriangulation, edge_count};
 ghost use Rattle.ideal_tri.specs.Refusals.{IsOfGoodSize};
-ghost use Rattle.ideal_tri.specs.Vertices.{rank, label_of_rank, corner_step, least_label, least_corner, first_corners_below, vertex_of, vertex_count, genus};
+ghost use Rattle.ideal_tri.specs.Vertices.{rank, label_of_rank, corner_step, least_label};
+ghost use Rattle.ideal_tri.specs.Vertices.{least_corner, first_corners_below, vertex_of};
+ghost use Rattle.ideal_tri.specs.Vertices.{vertex_count, genus};
 
 use crate::label::Label;
 use crate::laws::vertex_laws;
@@ -47,50 +51,53 @@ impl Tri {
         VertexId(first_corners(self, rank(first)))
     }
 
-    /// How many vertices there are, from 1 to two more than half of the triangles.
+    /// How many vertices there are: at least one for each component, and at most two more than half
+    /// of its triangles.
     pub fn vertex_count(&self) -> u32
         ensures { result ≡ vertex_count self.now }
     {
         first_corners(self, 2 * self.edges())
     }
 
-    /// The genus of the surface with its punctures filled in, from its Euler characteristic:
-    /// vertices - edges + triangles = 2 - 2 genus.
+    /// The genus of the surface with its punctures filled in, the sum of the genera of its
+    /// components. It comes from the Euler characteristic: vertices - edges + triangles = 2
+    /// components - 2 genus.
     pub fn genus(&self) -> u32
         ensures { result ≡ genus self.now }
     {
         vertex_laws();
-        (2 + self.edges() - self.triangles() - self.vertex_count()) / 2
+        let edges = self.edges();
+        (2 * self.components() + edges - self.triangles() - self.vertex_count()) / 2
     }
 }
 
-// The place of a label in the order of labels.
+/// The place of a label in the order of labels.
 fn rank(x: Label) -> u32
-    requires { edge_of x < 48 }
+    requires { edge_of x < EDGES }
     ensures { result ≡ rank x }
 {
     let first = 2 * x.edge();
     if x.get() < 0 { first + 1 } else { first }
 }
 
-// The label at a place in their order.
+/// The label at a place in their order.
 fn label_of_rank(k: u32) -> Label
-    requires { k < 96 }
+    requires { k < LABELS }
     ensures { result ≡ label_of_rank k }
 {
     let first = Label::new((k / 2) as i32);
     if k % 2 == 0 { first } else { first.inverse() }
 }
 
-// The one of two labels that comes first in their order.
+/// The one of two labels that comes first in their order.
 fn lesser(x: Label, y: Label) -> Label
-    requires { (edge_of x < 48) × (edge_of y < 48) }
+    requires { (edge_of x < EDGES) × (edge_of y < EDGES) }
     ensures { result ≡ least_label x y }
 {
     if rank(y) < rank(x) { y } else { x }
 }
 
-// The next corner round the same vertex.
+/// The next corner round the same vertex.
 fn turn(tri: &Tri, x: Label) -> Label
     requires { IsLabel tri.now x }
     ensures turned { result ≡ corner_step tri.now x }
@@ -99,7 +106,7 @@ fn turn(tri: &Tri, x: Label) -> Label
     tri.next(x).inverse()
 }
 
-// The least corner at the vertex of a corner. There are no more corners than labels.
+/// The least corner at the vertex of a corner. There are no more corners than labels.
 fn least_corner(tri: &Tri, x: Label) -> Label
     requires { IsLabel tri.now x }
     ensures least { result ≡ least_corner tri.now x }
@@ -116,7 +123,7 @@ fn least_corner(tri: &Tri, x: Label) -> Label
     least
 }
 
-// How many of the first `count` labels in their order are the least corners of their vertices.
+/// How many of the first `count` labels in their order are the least corners of their vertices.
 fn first_corners(tri: &Tri, count: u32) -> u32
     requires size { IsOfGoodSize tri.now }
     requires count { count ≤ 2 * edge_count tri.now }

@@ -1,9 +1,5 @@
-pub mod Hits
-pub mod Images
-pub mod Moved
-pub mod Triangles
 pub mod Slots
-pub mod Carried
-pub mod Composed
-pub mod Inverses
+pub mod Acceptance
+pub mod Connected
 pub mod Forced
+pub mod Pushes

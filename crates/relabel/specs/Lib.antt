@@ -1,6 +1,5 @@
 pub mod Relabellings
 pub mod Refusals
-pub mod LaidOut
-pub mod Laws
-pub mod Forced
 pub mod Pushed
+pub mod PushLaws
+pub mod inside

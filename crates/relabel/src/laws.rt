@@ -1,13 +1,12 @@
-//! What is proved of relabellings beyond the answers of the calls.
-ghost use Rattle.relabel.specs.Laws.{RelabellingLaws};
+//! What is proved of relabellings that are kept in an atlas.
+ghost use Rattle.relabel.specs.PushLaws.{PushLaws};
 
-use ideal_tri::{drawing_laws, word_laws};
+use tri_atlas::atlas_laws;
 
-/// What is proved of relabellings: each edge is the image of one, and the images of the curves that draw a vector cross
-/// the image of each edge as often as the vector says of the edge. It does nothing.
-pub fn relabelling_laws()
-    ensures { RelabellingLaws }
+/// What is proved of relabellings that are kept in an atlas: one that is pushed and read backwards
+/// does what its inverse does where that is pushed. It does nothing: a caller learns the laws.
+pub fn push_laws()
+    ensures { PushLaws }
 {
-    word_laws();
-    drawing_laws();
+    atlas_laws();
 }

@@ -1,5 +1,5 @@
 //! Relabellings as moves of an atlas.
-ghost use Rattle.std.specs.Prelude.{◌≡◌, ◌≤◌, ◌+◌, IfOk, OnErr};
+ghost use Rattle.std.specs.Prelude.{◌≡◌, IfOk, OnErr};
 ghost use Rattle.ideal_tri.specs.Relabellings.{IsRelabelling};
 ghost use Rattle.tri_atlas.specs.Arena.{triangulation, IsTriIn, Grows};
 ghost use Rattle.relabel.specs.Pushed.{IsPushed};
@@ -8,18 +8,20 @@ use crate::relabelling::Relabelling;
 use ideal_tri::Memory;
 use tri_atlas::{Atlas, MoveId, TriId, atlas_laws};
 
-/// Keeps a relabelling of one triangulation of an atlas onto another as a move, and answers it, forwards. Where memory is
-/// wanting the triangulations and moves stay.
+/// Keeps a relabelling of one triangulation of an atlas onto another as a move, and answers it,
+/// forwards. It wants memory only where there is no room for a push; where memory is wanting, the
+/// atlas stays as it was.
 pub fn push(atlas: &mut Atlas, from: TriId, to: TriId, r: &Relabelling) -> Result<MoveId, Memory>
     requires from { IsTriIn atlas.old from }
     requires to { IsTriIn atlas.old to }
-    requires carries { IsRelabelling (triangulation atlas.old from) (triangulation atlas.old to) r.now }
-    ensures pushed { IfOk result (λ m. IsPushed atlas.old atlas.new from to r.now m) }
-    ensures unchanged { OnErr result ((atlas.new.triangulations ≡ atlas.old.triangulations) × (atlas.new.moves ≡ atlas.old.moves)) }
-    ensures room_unchanged { OnErr result (atlas.old.spare ≤ atlas.new.spare) }
+    requires carries { IsRelabelling (triangulation atlas.old from)
+        (triangulation atlas.old to) r.now }
+    ensures accepted { IfOk result (λ m. IsPushed atlas.old atlas.new from to r.now m) }
+    ensures refused { OnErr result (atlas.old.spare ≡ 0) }
+    ensures unchanged { OnErr result (atlas.new ≡ atlas.old) }
     ensures grows { Grows atlas.old atlas.new }
-    ensures spare { atlas.old.spare ≤ atlas.new.spare + 1 }
 {
+    // an atlas with room and one more move begins as the atlas did
     atlas_laws();
     atlas.reserve(1)?;
     Ok(atlas.push_relabel(from, to, r.kept_images()))

@@ -1,20 +1,22 @@
 //! Relabellings, and the tests of a list of images.
-ghost use Rattle.std.specs.Prelude.{◌≡◌, ◌<◌, ◌≤◌, ◌↔◌, length, map, take, IsTrue, IfOk, IfErr, IfSome, IfNone, All};
+ghost use Rattle.std.specs.Prelude.{◌≡◌, ◌<◌, ◌≤◌, ◌↔◌, length, map, take};
+ghost use Rattle.std.specs.Prelude.{IsTrue, IfOk, IfErr, IfSome, IfNone, All};
 ghost use Rattle.ideal_tri.specs.Labels.{edge_of};
 ghost use Rattle.ideal_tri.specs.Triangulations.{edge_count, IsLabel, IsTriangulation};
-ghost use Rattle.ideal_tri.specs.Relabellings.{image_of, hits, IsCarried, IsRelabelling};
-ghost use Rattle.relabel.specs.Relabellings.{with_sign_of, IsBijection, AreInverse, RelabelsBack, RelabelsThrough};
-ghost use Rattle.relabel.specs.Refusals.{IsFirstOutside, IsLeastHitTwice, HitsNoneTwice, IsLeastBroken};
+ghost use Rattle.ideal_tri.specs.Relabellings.{image_of, hits, IsBijection, inverse_images};
+ghost use Rattle.ideal_tri.specs.Relabellings.{IsCarried, IsRelabelling};
+ghost use Rattle.relabel.specs.Refusals.{IsFirstOutside, IsLeastHitTwice, HitsNoneTwice};
+ghost use Rattle.relabel.specs.Refusals.{IsLeastBroken};
 
-use ideal_tri::{Label, Tri};
+use ideal_tri::{
+    EDGES, Label, Tri, bijection_laws, hit_laws, inverse_images, relabelling_laws, triple_laws,
+};
 use std::marker::Model;
 
-// The most edges of a triangulation.
-pub(crate) const EDGES: usize = 48;
-
-/// A relabelling of one ideal triangulation onto another with as many edges (after Bell's flipper): a bijection of their
-/// labels that takes `-1 - x` to `-1 - y` where it takes `x` to `y`, and each triangle to a triangle, up to rotation. It
-/// keeps the images of the labels 0, 1, .. in fixed memory, and means nothing without the two triangulations.
+/// A relabelling of one ideal triangulation onto another with as many edges (after Bell's flipper):
+/// a bijection of their labels that takes `-1 - x` to `-1 - y` where it takes `x` to `y`, and each
+/// triangle to a triangle, up to rotation. It keeps the images of the labels 0, 1, .. in fixed
+/// memory, and means nothing without the two triangulations.
 #[derive(Clone, Copy)]
 pub struct Relabelling {
     // the number of edges
@@ -38,7 +40,9 @@ pub enum RelabelError {
 
 impl Model for Relabelling {
     ghost use Rattle.std.specs.Prelude.{ℤ, List, ◌++◌, ◌-◌, length, take};
-    ghost use Rattle.relabel.specs.LaidOut.{IsLaidOut, spare_slots, count_again, images_again};
+    ghost use Rattle.ideal_tri.specs.declared.tri.TheConstants.{EDGES};
+    ghost use Rattle.relabel.specs.inside.LaidOut.{IsLaidOut, spare_slots, count_again};
+    ghost use Rattle.relabel.specs.inside.LaidOut.{images_again};
 
     ghost Value = { List ℤ };
 
@@ -48,7 +52,7 @@ impl Model for Relabelling {
 
     ghost inverse = { λ xs. record {
       count = length xs;
-      images = xs ++ spare_slots (48 - length xs);
+      images = xs ++ spare_slots (EDGES - length xs);
     } };
 
     ghost inverse_ok = { λ a h i. record {
@@ -60,13 +64,19 @@ impl Model for Relabelling {
 impl Relabelling {
     ghost use Rattle.relabel.specs.Refusals.{IsRefusedFor};
 
-    /// The relabelling of `from` onto `to` with this list of the images of the labels 0, 1, .. of `from`, or why there is
-    /// none. The tests are: one image for each edge; labels of `to`; no edge hit twice; triangles go to triangles.
+    /// The relabelling of `from` onto `to` with this list of the images of the labels 0, 1, .. of
+    /// `from`, or why there is none. The tests are: one image for each edge; labels of `to`; no
+    /// edge hit twice; triangles go to triangles.
     pub fn from_list(from: &Tri, to: &Tri, list: &[i32]) -> Result<Relabelling, RelabelError>
         requires same { edge_count from.now ≡ edge_count to.now }
-        ensures accepted { IfOk result (λ r. IsRelabelling from.now to.now list.now × (r ≡ list.now)) }
+        ensures accepted { IfOk result (λ r. IsRelabelling from.now to.now list.now
+            × (r ≡ list.now)) }
         ensures refused { IfErr result (IsRefusedFor from.now to.now list.now) }
+        ensures exact { IfErr result (λ _. ¬ IsRelabelling from.now to.now list.now) }
     {
+        hit_laws();
+        bijection_laws();
+        relabelling_laws();
         let edges = from.edges();
         if list.len() != edges as usize {
             return Err(RelabelError::WrongLength(list.len() as u64));
@@ -84,9 +94,9 @@ impl Relabelling {
         Ok(relabelling)
     }
 
-    // Keeps these images.
+    /// Keeps these images.
     fn from_images(list: &[i32]) -> Relabelling
-        requires small { length list.now ≤ 48 }
+        requires small { length list.now ≤ EDGES }
         requires bijection { IsBijection list.now }
         ensures { result ≡ list.now }
     {
@@ -100,51 +110,48 @@ impl Relabelling {
         }
     }
 
-    /// The image of a label of the first triangulation: of `-1 - x` it is the inverse of that of `x`.
+    /// The image of a label of the first triangulation, a label of the second: of `-1 - x` it is
+    /// the inverse of that of `x`.
     pub fn image(&self, x: Label) -> Label
         requires { edge_of x < length self.now }
-        ensures { result ≡ image_of self.now x }
+        ensures value { result ≡ image_of self.now x }
+        ensures label { edge_of result < length self.now }
     {
-        let image = self.images[x.edge() as usize];
-        if x.get() < 0 { image.inverse() } else { image }
+        bijection_laws();
+        self.images[x.edge() as usize].with_sign_of(x)
     }
 
-    // The images of the labels 0, 1, .., and zeros after them.
+    /// The images of the labels 0, 1, .., and zeros after them.
     pub(crate) fn kept_images(&self) -> [Label; EDGES]
         ensures { take (length self.now) result ≡ self.now }
     {
         self.images
     }
 
-    // How many edges each of the two triangulations has.
+    /// How many edges each of the two triangulations has.
     fn edges(&self) -> u32
         ensures count { result ≡ length self.now }
-        ensures small { result ≤ 48 }
+        ensures small { result ≤ EDGES }
         ensures bijection { IsBijection self.now }
     {
         self.count
     }
 
-    /// The relabelling back.
+    /// The relabelling back, from the second triangulation onto the first.
     pub fn inverse(&self) -> Relabelling
-        ensures inverse { AreInverse self.now result }
-        ensures back { RelabelsBack self.now result }
+        ensures { result ≡ inverse_images self.now }
     {
-        let mut images = [0; EDGES];
-        let edges = self.edges();
-        for edge in 0..edges {
-            let x = Label::new(edge as i32);
-            let image = self.image(x);
-            images[image.edge() as usize] = with_sign_of(image, x).get();
+        bijection_laws();
+        Relabelling {
+            count: self.count,
+            images: inverse_images(&self.images, self.count as usize),
         }
-        Relabelling::from_images(&images[..edges as usize])
     }
 
     /// This relabelling and then the next one, from the triangulation that this one ends at.
     pub fn then(&self, next: &Relabelling) -> Relabelling
         requires { length self.now ≡ length next.now }
-        ensures images { result ≡ map (image_of next.now) self.now }
-        ensures through { RelabelsThrough self.now next.now result }
+        ensures { result ≡ map (image_of next.now) self.now }
     {
         let mut images = [0; EDGES];
         let edges = self.edges();
@@ -152,18 +159,12 @@ impl Relabelling {
             let image = self.image(Label::new(edge as i32));
             images[edge as usize] = next.image(image).get();
         }
+        bijection_laws();
         Relabelling::from_images(&images[..next.edges() as usize])
     }
 }
 
-// The label `x`, or its inverse where `sign` is negative.
-pub(crate) fn with_sign_of(sign: Label, x: Label) -> Label
-    ensures { result ≡ with_sign_of sign x }
-{
-    if sign.get() < 0 { x.inverse() } else { x }
-}
-
-// The first place whose entry is no label of a triangulation with so many edges.
+/// The first place whose entry is no label of a triangulation with so many edges.
 fn first_outside(list: &[i32], edges: u32) -> Option<usize>
     ensures some { IfSome result (IsFirstOutside edges list.now) }
     ensures none { IfNone result (All (λ x. edge_of x < edges) list.now) }
@@ -176,7 +177,7 @@ fn first_outside(list: &[i32], edges: u32) -> Option<usize>
     None
 }
 
-// How many of the labels are of the edge.
+/// How many of the labels are of the edge.
 fn hits(list: &[i32], edge: u32) -> usize
     ensures { result ≡ hits list.now edge }
 {
@@ -185,12 +186,13 @@ fn hits(list: &[i32], edge: u32) -> usize
         .count()
 }
 
-// The least edge that is hit twice or more by labels of a triangulation with so many edges.
+/// The least edge that is hit twice or more by labels of a triangulation with so many edges.
 fn least_hit_twice(list: &[i32], edges: u32) -> Option<u32>
     requires { All (λ x. edge_of x < edges) list.now }
     ensures some { IfSome result (IsLeastHitTwice list.now) }
     ensures none { IfNone result (HitsNoneTwice list.now) }
 {
+    hit_laws();
     for edge in 0..edges {
         if hits(list, edge) > 1 {
             return Some(edge);
@@ -199,24 +201,25 @@ fn least_hit_twice(list: &[i32], edges: u32) -> Option<u32>
     None
 }
 
-// Whether the image of a triangle is a triangle of `to`.
+/// Whether the image of a triangle is a triangle of `to`.
 fn is_carried(relabelling: &Relabelling, to: &Tri, triangle: &[Label; 3]) -> bool
     requires sound { IsTriangulation to.now }
-    requires images { All (IsLabel to.now) relabelling.now }
+    requires as_many { length relabelling.now ≡ edge_count to.now }
     requires sides { All (λ x. edge_of x < length relabelling.now) triangle.now }
     ensures { IsTrue result ↔ IsCarried to.now relabelling.now triangle.now }
 {
+    triple_laws();
     let x = relabelling.image(triangle[0]);
     let y = relabelling.image(triangle[1]);
     let z = relabelling.image(triangle[2]);
     to.next(x) == y && to.next(y) == z
 }
 
-// The least triangle of `from` whose image is no triangle of `to`.
+/// The least triangle of `from` whose image is no triangle of `to`.
 fn least_broken(from: &Tri, to: &Tri, relabelling: &Relabelling) -> Option<u32>
     requires sound { IsTriangulation to.now }
     requires one_per_edge { length relabelling.now ≡ edge_count from.now }
-    requires images { All (IsLabel to.now) relabelling.now }
+    requires as_many { length relabelling.now ≡ edge_count to.now }
     ensures some { IfSome result (IsLeastBroken from.now to.now relabelling.now) }
     ensures none { IfNone result (All (IsCarried to.now relabelling.now) from.now) }
 {

@@ -1,20 +1,35 @@
 -- Arenas as they grow: what is kept stays, and the invariant holds after each push.
-use Rattle.std.proofs.Common.{◌≡◌, ◌∙◌, ◌<◌, ◌++◌, [], ◌∷◌, ℕ, zero, suc, ℤ, Bool, true, false, List, refl, sym, ap, subst, length, get_or, arith, length-append}
+--
+-- A push puts one element at the end of a list. What held of each element, and holds of the new one, holds of each
+-- element of the longer list; and the elements that were there have the same numbers. So the moves that were kept
+-- still lead from their sources to their targets. A flip that is pushed leads from its triangulation to the flipped
+-- one, pushed with it as the last; the flipped triangulation is one, with as many edges. A relabelling leads between
+-- two triangulations that are there.
+--
+-- A move read backwards is the backward move of what is kept, which leads from the target to the source. An edge that
+-- is carried has a label at its end: a flip keeps the labels, and the image of a label under a relabelling is the
+-- first letter of a walk, so a label.
+use Rattle.std.proofs.Common.{◌≡◌, ◌∙◌, ◌<◌, ◌≤◌, ◌++◌, [], ◌∷◌, ℕ, zero, suc, ℤ, Bool, true, false, List, refl, sym}
+use Rattle.std.proofs.Common.{ap}
+use Rattle.std.proofs.Common.{subst, length, get_or, arith, length-append}
 use Rattle.std.proofs.lemmas.List.{append-nil, get_or_append_left, get_or_push}
+use Rattle.ideal_tri.specs.declared.tri.TheConstants.{EDGES}
 use Rattle.ideal_tri.specs.Flips.{IsFlippable, flipped}
-use Rattle.ideal_tri.specs.FlipLaws.{FlipLaws, QuadrilateralLaws}
+use Rattle.ideal_tri.specs.FlipLaws.{OneFlipLaws, FlipLaws}
 use Rattle.ideal_tri.specs.Relabellings.{IsRelabelling}
 use Rattle.ideal_tri.specs.Triangulations.{IsTriangulation, IsLabel, edge_count}
 use Rattle.ideal_tri.specs.Labels.{edge_of}
 use Rattle.tri_atlas.specs.Moves.{Move, flip, unflip, relabel, IsMove, back_of}
 use Rattle.tri_atlas.specs.MapLaws.{MoveLaws}
 use Rattle.tri_atlas.specs.Paths.{is_flip}
-use Rattle.tri_atlas.proofs.Relabellings.{label_of_image}
-use Rattle.tri_atlas.specs.Arena.{Entry, Arena, EdgeHandle, MoveHandle, triangulation, entry_at, IsTriIn, IsEdgeIn, IsMoveIn, IsEntryOf, IsArena, Grows, flip_of, flip_entry, source_of, target_of, step_of, label_after, is_flipped_by, edge_after}
+use Rattle.tri_atlas.specs.Arena.{Entry, Arena, EdgeHandle, MoveHandle, triangulation, entry_at, IsTriIn, IsEdgeIn}
+use Rattle.tri_atlas.specs.Arena.{IsMoveIn, IsEntryOf, IsArena, Grows, flip_of, flip_entry, source_of, target_of}
+use Rattle.tri_atlas.specs.Arena.{step_of, label_after, is_flipped_by, edge_after}
 
 -- ---- lists with one more element
 
-pub each_pushed : {A : Type 0} (P : A → Type 0) (xs : List A) (x d : A) → ((k : ℕ) → k < length xs → P (get_or xs k d)) → P x
+pub each_pushed : {A : Type 0} (P : A → Type 0) (xs : List A) (x d : A) → ((k : ℕ) → k < length xs → P (get_or xs k d))
+    → P x
     → (k : ℕ) → k < length (xs ++ x ∷ []) → P (get_or (xs ++ x ∷ []) k d)
 each_pushed P [] x d h p zero b = p
 each_pushed P [] x d h p (suc k) b = absurd (omega arith)
@@ -39,17 +54,22 @@ grows_by old new triangulations moves t m = record { triangulations = (triangula
 pub no_more : (old new : List (List (List ℤ))) → new ≡ old → new ≡ old ++ []
 no_more old new e = e ∙ sym (append-nil old)
 
-pub triangulation_stays : (old new more : List (List (List ℤ))) (t : ℕ) → t < length old → new ≡ old ++ more → get_or new t [] ≡ get_or old t []
-triangulation_stays old new more t h e = ap (λ (z : List (List (List ℤ))). get_or z t []) e ∙ get_or_append_left old more [] t h
+pub triangulation_stays : (old new more : List (List (List ℤ))) (t : ℕ) → t < length old → new ≡ old ++ more
+    → get_or new t [] ≡ get_or old t []
+triangulation_stays old new more t h e =
+    ap (λ (z : List (List (List ℤ))). get_or z t []) e ∙ get_or_append_left old more [] t h
 
 -- the entry that was pushed is found
-pub newest_entry : (old new : List Entry) (entry : Entry) (k : ℕ) → new ≡ old ++ entry ∷ [] → k ≡ length old → entry_at new k ≡ entry
+pub newest_entry : (old new : List Entry) (entry : Entry) (k : ℕ) → new ≡ old ++ entry ∷ [] → k ≡ length old
+    → entry_at new k ≡ entry
 newest_entry old new entry k is at =
-    ap (λ (z : List Entry). entry_at z k) is ∙ get_or_push old entry (record { source = 0; target = 0; move = relabel [] }) k (sym at)
+    ap (λ (z : List Entry). entry_at z k) is
+    ∙ get_or_push old entry (record { source = 0; target = 0; move = relabel [] }) k (sym at)
 
 -- ---- the invariant
 
-IsArena-same : (old new : Arena) → new.triangulations ≡ old.triangulations → new.moves ≡ old.moves → IsArena old → IsArena new
+IsArena-same : (old new : Arena) → new.triangulations ≡ old.triangulations → new.moves ≡ old.moves → IsArena old
+    → IsArena new
 IsArena-same old new t m h =
     let kept : IsArena (record { triangulations = old.triangulations; moves = old.moves; spare = new.spare }) =
     record { base = h.base; sound = h.sound; edges = h.edges; few = h.few; moves = h.moves } in
@@ -95,20 +115,22 @@ pub IsArena-triangulation : (old : Arena) (triples : List (List ℤ)) → IsAren
     → IsArena (record { triangulations = old.triangulations ++ triples ∷ []; moves = old.moves; spare = 0 })
 IsArena-triangulation old triples h is e =
     let new : Arena = record { triangulations = old.triangulations ++ triples ∷ []; moves = old.moves; spare = 0 } in
-    let first : triangulation new 0 ≡ triangulation old 0 = triangulation_stays old.triangulations new.triangulations (triples ∷ []) 0 h.base refl in
+    let first : triangulation new 0 ≡ triangulation old 0 =
+    triangulation_stays old.triangulations new.triangulations (triples ∷ []) 0 h.base refl in
     let base : 0 < length old.triangulations = h.base in
     let as_base : List (List ℤ) → Type 0 = λ z. edge_count z ≡ edge_count (triangulation old 0) in
     record {
       base = omega (arith, length-append old.triangulations (triples ∷ []));
       sound = each_pushed IsTriangulation old.triangulations triples [] h.sound is;
       edges = λ t l. each_pushed as_base old.triangulations triples [] h.edges e t l ∙ sym (ap edge_count first);
-      few = subst (λ (n : ℕ). n < 49) (sym (ap edge_count first)) h.few;
+      few = subst (λ (n : ℕ). n ≤ EDGES) (sym (ap edge_count first)) h.few;
       moves = λ k l. entry_stays old.triangulations (triples ∷ []) (entry_at old.moves k) (h.moves k l);
     }
 
 -- the flip of an edge leads to the triangulation that is pushed with it
-flip_entry_kept : (old : Arena) (e : EdgeHandle) (after : List (List ℤ)) → IsEdgeIn old e → IsFlippable (triangulation old e.tri) e.label
-    → after ≡ flipped (triangulation old e.tri) e.label → IsEntryOf (old.triangulations ++ after ∷ []) (flip_entry old e)
+flip_entry_kept : (old : Arena) (e : EdgeHandle) (after : List (List ℤ)) → IsEdgeIn old e
+    → IsFlippable (triangulation old e.tri) e.label → after ≡ flipped (triangulation old e.tri) e.label
+    → IsEntryOf (old.triangulations ++ after ∷ []) (flip_entry old e)
 flip_entry_kept old e after here flippable is =
     let same : get_or (old.triangulations ++ after ∷ []) e.tri [] ≡ triangulation old e.tri =
     get_or_append_left old.triangulations (after ∷ []) [] e.tri here.tri in
@@ -134,11 +156,13 @@ flip_entry_kept old e after here flippable is =
     }
 
 -- a flip and its triangulation
-pub IsArena-flip : (old new : Arena) (e : EdgeHandle) (after : List (List ℤ)) → QuadrilateralLaws → IsArena old → IsEdgeIn old e
+pub IsArena-flip : (old new : Arena) (e : EdgeHandle) (after : List (List ℤ)) → FlipLaws → IsArena old
+    → IsEdgeIn old e
     → IsFlippable (triangulation old e.tri) e.label → after ≡ flipped (triangulation old e.tri) e.label
-    → new.triangulations ≡ old.triangulations ++ after ∷ [] → new.moves ≡ old.moves ++ flip_entry old e ∷ [] → IsArena new
+    → new.triangulations ≡ old.triangulations ++ after ∷ [] → new.moves ≡ old.moves ++ flip_entry old e ∷ []
+    → IsArena new
 IsArena-flip old new e after laws h here flippable is t m =
-    let flip_laws : FlipLaws (triangulation old e.tri) e.label =
+    let flip_laws : OneFlipLaws (triangulation old e.tri) e.label =
     laws.flips (triangulation old e.tri) e.label (h.sound e.tri here.tri) here.label flippable in
     let between : Arena = record { triangulations = old.triangulations ++ after ∷ []; moves = old.moves; spare = 0 } in
     let sound : IsTriangulation after = subst IsTriangulation (sym is) flip_laws.triangulation in
@@ -148,7 +172,8 @@ IsArena-flip old new e after laws h here flippable is t m =
     (flip_entry_kept old e after here flippable is) t m
 
 -- a relabelling between triangulations that are there
-pub IsArena-relabel : (old new : Arena) (source target : ℕ) (images : List ℤ) → IsArena old → IsTriIn old source → IsTriIn old target
+pub IsArena-relabel : (old new : Arena) (source target : ℕ) (images : List ℤ) → IsArena old → IsTriIn old source
+    → IsTriIn old target
     → IsRelabelling (triangulation old source) (triangulation old target) images
     → new.triangulations ≡ old.triangulations
     → new.moves ≡ old.moves ++ record { source = source; target = target; move = relabel images } ∷ [] → IsArena new
@@ -159,14 +184,16 @@ IsArena-relabel old new source target images h source_in target_in carries t m =
 -- ---- moves
 
 -- a move starts and ends at triangulations that are there
-pub ends_in : (arena : Arena) (m : MoveHandle) → IsArena arena → IsMoveIn arena m → IsTriIn arena (source_of arena m) × IsTriIn arena (target_of arena m)
+pub ends_in : (arena : Arena) (m : MoveHandle) → IsArena arena → IsMoveIn arena m
+    → IsTriIn arena (source_of arena m) × IsTriIn arena (target_of arena m)
 ends_in arena m h here = by_direction m.backwards
   where
     kept : IsEntryOf arena.triangulations (entry_at arena.moves m.number)
     kept = h.moves m.number here
 
     by_direction : (b : Bool)
-        → IsTriIn arena (source_of arena (record { number = m.number; backwards = b })) × IsTriIn arena (target_of arena (record { number = m.number; backwards = b }))
+        → IsTriIn arena (source_of arena (record { number = m.number; backwards = b }))
+        × IsTriIn arena (target_of arena (record { number = m.number; backwards = b }))
     by_direction true = (kept.target_in, kept.source_in)
     by_direction false = (kept.source_in, kept.target_in)
 
@@ -179,20 +206,25 @@ leads laws arena m h here = by_direction m.backwards
     kept = h.moves m.number here
 
     by_direction : (b : Bool) → let way : MoveHandle = record { number = m.number; backwards = b } in
-        IsMove (triangulation arena (source_of arena way)) (triangulation arena (target_of arena way)) (step_of arena way)
+        IsMove (triangulation arena (source_of arena way)) (triangulation arena (target_of arena way))
+        (step_of arena way)
     by_direction true =
-        laws.back _ _ (entry_at arena.moves m.number).move (h.sound _ kept.source_in) (h.sound _ kept.target_in) kept.move
+        laws.back _ _ (entry_at arena.moves m.number).move (h.sound _ kept.source_in)
+        (h.sound _ kept.target_in) kept.move
     by_direction false = kept.move
 
 -- a label of the first triangulation goes to a label of the second
-label_carried : (before target : List (List ℤ)) (m : Move) (x : ℤ) → edge_count before ≡ edge_count target → IsMove before target m
-    → IsLabel before x → IsLabel target (label_after m x)
-label_carried before target (flip e a b c d) x n h l = subst (λ (k : ℕ). edge_of x < k) n l
-label_carried before target (unflip e a b c d) x n h l = subst (λ (k : ℕ). edge_of x < k) n l
-label_carried before target (relabel images) x n h l = label_of_image before target images x h l
+label_carried : MoveLaws → (before target : List (List ℤ)) (m : Move) (x : ℤ) → IsTriangulation before
+    → IsTriangulation target → edge_count before ≡ edge_count target → IsMove before target m → IsLabel before x
+    → IsLabel target (label_after m x)
+label_carried laws before target (flip e a b c d) x p t n h l = subst (λ (k : ℕ). edge_of x < k) n l
+label_carried laws before target (unflip e a b c d) x p t n h l = subst (λ (k : ℕ). edge_of x < k) n l
+label_carried laws before target (relabel images) x p t n h l =
+    ((laws.maps before target (relabel images) p t h).walks x l).0
 
 -- an edge that is carried is an edge of the atlas
-pub edge_carried : MoveLaws → (arena : Arena) (m : MoveHandle) (e : EdgeHandle) → IsArena arena → IsMoveIn arena m → IsEdgeIn arena e
+pub edge_carried : MoveLaws → (arena : Arena) (m : MoveHandle) (e : EdgeHandle) → IsArena arena → IsMoveIn arena m
+    → IsEdgeIn arena e
     → e.tri ≡ source_of arena m → IsEdgeIn arena (edge_after arena m e)
 edge_carried laws arena m e h here edge at =
     let ends : IsTriIn arena (source_of arena m) × IsTriIn arena (target_of arena m) = ends_in arena m h here in
@@ -200,7 +232,8 @@ edge_carried laws arena m e h here edge at =
     subst (λ (t : ℕ). IsLabel (triangulation arena t) e.label) at edge.label in
     record {
       tri = ends.1;
-      label = label_carried _ _ (step_of arena m) e.label (h.edges _ ends.0 ∙ sym (h.edges _ ends.1)) (leads laws arena m h here) label;
+      label = label_carried laws _ _ (step_of arena m) e.label (h.sound _ ends.0) (h.sound _ ends.1)
+          (h.edges _ ends.0 ∙ sym (h.edges _ ends.1)) (leads laws arena m h here) label;
     }
 
 -- a flip backwards takes the same edge away

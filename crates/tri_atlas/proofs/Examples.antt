@@ -2,8 +2,9 @@
 use Rattle.std.proofs.Common.{◌≡◌, ℤ, pos, negsuc, List, [], ◌∷◌, ◌++◌, refl, arith}
 use Rattle.ideal_tri.specs.Triangulations.{IsWalk, previous}
 use Rattle.ideal_tri.specs.Flips.{flipped}
-use Rattle.tri_atlas.specs.Moves.{Move, flip, relabel, back_of, back_along, inverse_images}
-use Rattle.tri_atlas.specs.Maps.{image_of_letter, path_map}
+use Rattle.ideal_tri.specs.Relabellings.{inverse_images}
+use Rattle.tri_atlas.specs.Moves.{Move, flip, relabel, back_of, back_along, triangle_image}
+use Rattle.tri_atlas.specs.Maps.{image_of_letter, path_map, letters_of}
 use Rattle.tri_atlas.specs.MovedVectors.{vector_along}
 
 abbrev torus : List (List ℤ)
@@ -30,6 +31,10 @@ image_1 = refl
 walk_2 : IsWalk (flipped torus (pos 0)) 0 (image_of_letter first_flip (pos 2)) 1
 walk_2 = (omega arith, refl, (omega arith, refl, (omega arith, refl, refl)))
 
+-- the images of the labels 0, 1 and 2 have 1, 1 and 3 letters
+letters : letters_of torus (image_of_letter first_flip) ≡ 5
+letters = refl
+
 -- the backward flip has the inverse of edge 0 in its place
 back_2 : image_of_letter (back_of first_flip) (pos 2) ≡ negsuc 0 ∷ pos 2 ∷ negsuc 0 ∷ []
 back_2 = refl
@@ -48,6 +53,13 @@ rotated_back = refl
 -- a relabelling with a label turned round, and back
 turned_back : inverse_images (negsuc 1 ∷ pos 0 ∷ pos 2 ∷ []) ≡ pos 1 ∷ negsuc 0 ∷ pos 2 ∷ []
 turned_back = refl
+
+-- a turn by half a circle changes the triangles, and a flip leaves them
+half_turn : triangle_image torus torus (relabel (negsuc 0 ∷ negsuc 1 ∷ negsuc 2 ∷ [])) 0 ≡ 1
+half_turn = refl
+
+stays : triangle_image torus (flipped torus (pos 0)) first_flip 1 ≡ 1
+stays = refl
 
 -- the Dehn twist about the curve that crosses the edges 0 and 2: a flip and a relabelling
 abbrev twist : List Move

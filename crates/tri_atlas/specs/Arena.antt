@@ -1,18 +1,23 @@
--- An atlas: triangulations and the moves between them, and handles of its triangulations, edges and moves.
-use Rattle.std.specs.Prelude.{◌≡◌, ◌<◌, ℕ, ℤ, Bool, false, List, [], ◌++◌, length, take, slice_index_or, if◌then◌else◌, ◌||◌, not}
+-- An atlas: triangulations and the moves between them, and handles of its triangulations, edges and
+-- moves.
+use Rattle.std.specs.Prelude.{◌≡◌, ◌<◌, ◌≤◌, ◌+◌, ℕ, ℤ, Bool, false, List, [], ◌++◌, length, take}
+use Rattle.std.specs.Prelude.{slice_index_or, if◌then◌else◌, ◌||◌, not}
 use Rattle.std.specs.Ordering.{int_eq}
 use Rattle.ideal_tri.specs.Labels.{inverse}
 use Rattle.ideal_tri.specs.Triangulations.{IsTriangulation, IsLabel, edge_count, next, previous}
 use Rattle.ideal_tri.specs.Relabellings.{image_of}
+use Rattle.ideal_tri.specs.declared.tri.TheConstants.{EDGES}
 use Rattle.tri_atlas.specs.Moves.{Move, flip, unflip, relabel, IsMove, back_of}
 
--- a move as it is kept, read forwards: the numbers of the triangulations where it starts and ends, and what it does
+-- a move as it is kept, read forwards: the numbers of the triangulations where it starts and ends,
+-- and what it does
 pub record Entry : Type 0 where
   pub source : ℕ
   pub target : ℕ
   pub move : Move
 
--- the triangulations and the moves between them, and for how many pushes there is room
+-- the triangulations and the moves between them, and for how many pushes there is room: so many
+-- take no memory
 pub record Arena : Type 0 where
   pub triangulations : List (List (List ℤ))
   pub moves : List Entry
@@ -41,17 +46,20 @@ entry_at entries k = slice_index_or entries k (record { source = 0; target = 0; 
 -- where a move starts
 abbrev pub source_of : Arena → MoveHandle → ℕ
 source_of arena m =
-    if m.backwards then (entry_at arena.moves m.number).target else (entry_at arena.moves m.number).source
+    if m.backwards then (entry_at arena.moves m.number).target
+    else (entry_at arena.moves m.number).source
 
 -- where a move ends
 abbrev pub target_of : Arena → MoveHandle → ℕ
 target_of arena m =
-    if m.backwards then (entry_at arena.moves m.number).source else (entry_at arena.moves m.number).target
+    if m.backwards then (entry_at arena.moves m.number).source
+    else (entry_at arena.moves m.number).target
 
 -- what a move does
 abbrev pub step_of : Arena → MoveHandle → Move
 step_of arena m =
-    if m.backwards then back_of (entry_at arena.moves m.number).move else (entry_at arena.moves m.number).move
+    if m.backwards then back_of (entry_at arena.moves m.number).move
+    else (entry_at arena.moves m.number).move
 
 -- the same move, the other way
 abbrev pub back : MoveHandle → MoveHandle
@@ -78,15 +86,19 @@ IsMoveIn arena m = m.number < length arena.moves
 pub record IsEntryOf (triangulations : List (List (List ℤ))) (entry : Entry) : Type 0 where
   pub source_in : entry.source < length triangulations
   pub target_in : entry.target < length triangulations
-  pub move : IsMove (slice_index_or triangulations entry.source []) (slice_index_or triangulations entry.target []) entry.move
+  pub move : IsMove (slice_index_or triangulations entry.source [])
+      (slice_index_or triangulations entry.target []) entry.move
 
--- what is true of every atlas: triangulations with the same number of edges, at most 48, and moves between them
+-- what is true of every atlas: triangulations with the same number of edges, at most EDGES, and
+-- moves between them
 pub record IsArena (arena : Arena) : Type 0 where
   pub base : IsTriIn arena 0
   pub sound : (t : ℕ) → IsTriIn arena t → IsTriangulation (triangulation arena t)
-  pub edges : (t : ℕ) → IsTriIn arena t → edge_count (triangulation arena t) ≡ edge_count (triangulation arena 0)
-  pub few : edge_count (triangulation arena 0) < 49
-  pub moves : (k : ℕ) → k < length arena.moves → IsEntryOf arena.triangulations (entry_at arena.moves k)
+  pub edges : (t : ℕ) → IsTriIn arena t
+      → edge_count (triangulation arena t) ≡ edge_count (triangulation arena 0)
+  pub few : edge_count (triangulation arena 0) ≤ EDGES
+  pub moves : (k : ℕ) → k < length arena.moves
+      → IsEntryOf arena.triangulations (entry_at arena.moves k)
 
 -- the list begins with the other
 abbrev pub IsBeginning : {A : Type 0} → List A → List A → Type 0
@@ -96,6 +108,10 @@ IsBeginning {A} xs ys = (rest : List A) × (ys ≡ xs ++ rest)
 pub record Grows (old new : Arena) : Type 0 where
   pub triangulations : IsBeginning old.triangulations new.triangulations
   pub moves : IsBeginning old.moves new.moves
+
+-- where there was room, that of one push is used
+abbrev pub UsesRoom : Arena → Arena → Type 0
+UsesRoom old new = 0 < old.spare → new.spare + 1 ≡ old.spare
 
 -- ---- edges across moves
 
@@ -113,13 +129,18 @@ is_flipped_by (relabel images) x = false
 
 -- the edge after a move: at the target, with its label there
 abbrev pub edge_after : Arena → MoveHandle → EdgeHandle → EdgeHandle
-edge_after arena m e = record { tri = target_of arena m; label = label_after (step_of arena m) e.label }
+edge_after arena m e = record {
+  tri = target_of arena m;
+  label = label_after (step_of arena m) e.label;
+}
 
 -- ---- what is kept by a push
 
 -- the flip of an edge, with the sides of its two triangles
 abbrev pub flip_of : List (List ℤ) → ℤ → Move
-flip_of triples e = flip e (next triples e) (previous triples e) (next triples (inverse e)) (previous triples (inverse e))
+flip_of triples e =
+    flip e (next triples e) (previous triples e) (next triples (inverse e))
+    (previous triples (inverse e))
 
 -- the flip of an edge, to the next triangulation that is kept
 abbrev pub flip_entry : Arena → EdgeHandle → Entry

@@ -3,8 +3,8 @@ pub mod Maps
 pub mod MapLaws
 pub mod Arena
 pub mod Paths
+pub mod AtlasLaws
 pub mod Steps
-pub mod Fields
-pub mod ArenaLaws
 pub mod MovedVectors
 pub mod VectorLaws
+pub mod inside

@@ -6,7 +6,8 @@ use Rattle.ideal_tri.specs.Triangulations.{edge_count}
 use Rattle.ideal_tri.specs.Vectors.{weight}
 use Rattle.ideal_tri.specs.Curves.{crossings}
 use Rattle.ideal_tri.specs.Strands.{State, IsDrawing, words_of}
-use Rattle.tri_atlas.specs.Moves.{Move, flip, unflip, relabel, inverse_images}
+use Rattle.ideal_tri.specs.Relabellings.{inverse_images}
+use Rattle.tri_atlas.specs.Moves.{Move, flip, unflip, relabel}
 use Rattle.tri_atlas.specs.Maps.{images_under, path_map}
 use Rattle.tri_atlas.specs.Paths.{is_flip}
 

@@ -1,13 +1,12 @@
 -- Moves from one triangulation to another: flips, backward flips and relabellings.
-use Rattle.std.specs.Prelude.{◌≡◌, ℕ, suc, ℤ, pos, negsuc, List, [], ◌∷◌, map, reverse, slice_index_or, if◌then◌else◌}
-use Rattle.std.specs.Ordering.{int_eq}
+use Rattle.std.specs.Prelude.{◌≡◌, ℕ, ℤ, pos, List, [], ◌∷◌, map, reverse, slice_index_or}
 use Rattle.ideal_tri.specs.Labels.{inverse}
 use Rattle.ideal_tri.specs.Triangulations.{IsTriangulation, IsLabel, triangle_of, next, previous}
-use Rattle.ideal_tri.specs.Relabellings.{image_of, IsRelabelling}
+use Rattle.ideal_tri.specs.Relabellings.{image_of, inverse_images, IsRelabelling}
 use Rattle.ideal_tri.specs.Flips.{IsFlippable, flipped}
 
--- a flip with the sides (e,a,b) and (~e,c,d) before it; a backward flip names the sides as its flip did;
--- a relabelling lists the images of the labels 0 to n - 1
+-- a flip with the sides (e,a,b) and (~e,c,d) before it; a backward flip, which names the sides as
+-- its flip did; and a relabelling, which lists the images of the labels 0 to n - 1
 pub data Move : Type 0 where
   flip : (e a b c d : ℤ) → Move
   unflip : (e a b c d : ℤ) → Move
@@ -29,23 +28,6 @@ IsMove before after (flip e a b c d) = IsFlip before after e a b c d
 IsMove before after (unflip e a b c d) = IsFlip after before e a b c d
 IsMove before after (relabel images) = IsRelabelling before after images
 
--- the label whose image is x: the first one found, from the number n on
-abbrev pub origin_from : ℕ → List ℤ → ℤ → ℤ
-origin_from n [] x = x
-origin_from n (y ∷ images) x = if int_eq y x then pos n else if int_eq y (inverse x) then negsuc n else origin_from (suc n) images x
-
-abbrev pub origin_of : List ℤ → ℤ → ℤ
-origin_of images x = origin_from 0 images x
-
--- the numbers from n on, as many as the list is long
-abbrev pub numbers_from : ℕ → List ℤ → List ℕ
-numbers_from n [] = []
-numbers_from n (x ∷ xs) = n ∷ numbers_from (suc n) xs
-
--- the images under the relabelling backwards
-abbrev pub inverse_images : List ℤ → List ℤ
-inverse_images images = map (λ n. origin_of images (pos n)) (numbers_from 0 images)
-
 -- the same move, the other way
 abbrev pub back_of : Move → Move
 back_of (flip e a b c d) = unflip e a b c d
@@ -55,7 +37,9 @@ back_of (relabel images) = relabel (inverse_images images)
 -- the moves follow each other, from triangulation to triangulation
 abbrev pub ArePath : List (List ℤ) → List Move → List (List ℤ) → Type 0
 ArePath before [] after = before ≡ after
-ArePath before (m ∷ moves) after = (between : List (List ℤ)) × IsTriangulation between × IsMove before between m × ArePath between moves after
+ArePath before (m ∷ moves) after =
+    (between : List (List ℤ)) × IsTriangulation between × IsMove before between m
+    × ArePath between moves after
 
 -- the moves backwards
 abbrev pub back_along : List Move → List Move
@@ -65,14 +49,10 @@ back_along moves = reverse (map back_of moves)
 abbrev pub first_side : List (List ℤ) → ℕ → ℤ
 first_side triples t = slice_index_or (slice_index_or triples t []) 0 (pos 0)
 
--- where the triangle of x goes: a flip leaves triangles in their places, a relabelling moves it to that of the image
-abbrev pub triangle_after : List (List ℤ) → List (List ℤ) → Move → ℤ → ℕ
-triangle_after before target (flip e a b c d) x = triangle_of before x
-triangle_after before target (unflip e a b c d) x = triangle_of before x
-triangle_after before target (relabel images) x = triangle_of target (image_of images x)
-
--- where the triangle with this number goes
+-- where the triangle with this number goes: a flip leaves triangles in their places, a relabelling
+-- moves a triangle to that of the images of its sides
 abbrev pub triangle_image : List (List ℤ) → List (List ℤ) → Move → ℕ → ℕ
 triangle_image before target (flip e a b c d) t = t
 triangle_image before target (unflip e a b c d) t = t
-triangle_image before target (relabel images) t = triangle_of target (image_of images (first_side before t))
+triangle_image before target (relabel images) t =
+    triangle_of target (image_of images (first_side before t))

@@ -1,21 +1,25 @@
 //! The arena of triangulations and moves.
-ghost use Rattle.std.specs.Prelude.{◌≡◌, ◌<◌, ◌≤◌, ◌+◌, ℕ, [], ◌∷◌, ◌++◌, length, IfOk, OnOk, IfSome, IfNone};
+ghost use Rattle.std.specs.Prelude.{◌≡◌, ◌<◌, ◌≤◌, ◌+◌, ℕ, [], ◌∷◌, ◌++◌, length, IfOk, OnOk};
+ghost use Rattle.std.specs.Prelude.{OnErr, IfSome, IfNone};
 ghost use Rattle.ideal_tri.specs.Triangulations.{IsTriangulation, IsLabel, edge_count};
 ghost use Rattle.ideal_tri.specs.Flips.{IsFlippable, flipped};
 ghost use Rattle.ideal_tri.specs.Relabellings.{IsRelabelling};
 ghost use Rattle.tri_atlas.specs.Moves.{relabel};
-ghost use Rattle.tri_atlas.specs.Arena.{triangulation, IsTriIn, IsEdgeIn, IsMoveIn, IsArena, Grows, source_of, target_of, step_of, back, flip_of, flip_entry, edge_after, is_flipped_by, images_kept, relabel_entry, newest};
+ghost use Rattle.tri_atlas.specs.Arena.{triangulation, IsTriIn, IsEdgeIn, IsMoveIn, IsArena, Grows};
+ghost use Rattle.tri_atlas.specs.Arena.{source_of, target_of, step_of, back, flip_of, flip_entry};
+ghost use Rattle.tri_atlas.specs.Arena.{edge_after, is_flipped_by, images_kept, relabel_entry};
+ghost use Rattle.tri_atlas.specs.Arena.{newest};
 ghost use Rattle.tri_atlas.specs.Steps.{move_of, edge_in, is_new};
 ghost use Rattle.tri_atlas.specs.Paths.{is_flip};
 
 use crate::handles::{EdgeId, MoveId, TriId};
 use crate::laws::map_laws;
 use crate::step::{Carried, Step, backwards, is_flip, is_flipped, label_after};
-use ideal_tri::{Label, Memory, Tri, flip_laws, surface_laws};
+use ideal_tri::{EDGES, Label, Memory, Tri, flip_laws, relabelling_laws, surface_laws};
 use std::alloc::Global;
 use std::marker::Model;
 
-// A move as it is kept, read forwards.
+/// A move as it is kept, read forwards.
 #[derive(Clone, Copy)]
 struct Kept {
     source: TriId,
@@ -23,10 +27,11 @@ struct Kept {
     step: Step,
 }
 
-/// An arena of triangulations with the same number of edges, and of moves between them. It only grows.
+/// An arena of triangulations with the same number of edges, and of moves between them. It only
+/// grows.
 #[derive(Drop)]
 pub struct Atlas {
-    // the number of edges of each triangulation
+    /// the number of edges of each triangulation
     edges: u32,
     triangulations: Vec<Tri>,
     moves: Vec<Kept>,
@@ -37,7 +42,7 @@ impl Model for Atlas {
 
     ghost Value = { Arena };
 
-    ghost use Rattle.tri_atlas.specs.Fields.{arena_of, IsKept};
+    ghost use Rattle.tri_atlas.specs.inside.Fields.{arena_of, IsKept};
 
     ghost view = { arena_of };
 
@@ -67,7 +72,7 @@ impl Atlas {
         ensures here { IsTriIn self.now result }
         ensures sound { IsArena self.now }
     {
-        // what is true of every atlas is known where a field is read
+        // what is true of every atlas is known from where a field is read
         let _ = &self.triangulations;
         TriId(0)
     }
@@ -96,21 +101,32 @@ impl Atlas {
         }
     }
 
-    /// Makes room for `n` pushes. The triangulations and moves stay, also where memory is wanting.
+    /// Makes room for `n` pushes, which then take no memory. It wants memory only where there isn't
+    /// the room already; where there is, or where memory is wanting, nothing changes.
     pub fn reserve(&mut self, n: usize) -> Result<(), Memory>
-        ensures room { OnOk result (n ≤ self.new.spare) }
+        ensures accepted { OnOk result (n ≤ self.new.spare) }
+        ensures refused { OnErr result (self.old.spare < n) }
+        ensures enough { n ≤ self.old.spare → self.new ≡ self.old }
         ensures no_less { self.old.spare ≤ self.new.spare }
+        ensures unchanged { OnErr result (self.new ≡ self.old) }
         ensures triangulations { self.new.triangulations ≡ self.old.triangulations }
         ensures moves { self.new.moves ≡ self.old.moves }
         ensures grows { Grows self.old self.new }
     {
-        self.triangulations.reserve(n)?;
-        self.moves.reserve(n)?;
+        if n <= self.moves.capacity() - self.moves.len() {
+            return Ok(());
+        }
+        // as much again as is kept, so that reserving for each push in turn stays cheap
+        let room = n.max(self.moves.len());
+        // exactly this room for moves, so that the triangulations have at least as much
+        self.triangulations.reserve(room)?;
+        self.moves.reserve_exact(room)?;
         Ok(())
     }
 
-    /// Keeps the flip of an edge and the triangulation after it, which is to be the flipped triangulation of a flippable
-    /// edge. There must be room, made by `reserve`.
+    /// Keeps the flip of an edge and the triangulation after it, which is to be the flipped
+    /// triangulation of a flippable edge. There must be room, made by `reserve`; this uses one
+    /// place of it, and takes no memory.
     pub fn push_flip(&mut self, e: EdgeId, after: Tri) -> MoveId
         requires room { 0 < self.old.spare }
         requires here { IsEdgeIn self.old e }
@@ -118,7 +134,7 @@ impl Atlas {
         requires flipped { after ≡ flipped (triangulation self.old e.tri) e.label }
         ensures triangulations { self.new.triangulations ≡ self.old.triangulations ++ after ∷ [] }
         ensures moves { self.new.moves ≡ self.old.moves ++ flip_entry self.old e ∷ [] }
-        ensures spare { self.old.spare ≤ self.new.spare + 1 }
+        ensures spare { self.new.spare + 1 ≡ self.old.spare }
         ensures handle { result ≡ newest self.old.moves }
         ensures grows { Grows self.old self.new }
         ensures here { IsMoveIn self.new result }
@@ -127,6 +143,7 @@ impl Atlas {
         ensures after { triangulation self.new (target_of self.new result) ≡ after }
         ensures step { step_of self.new result ≡ flip_of (triangulation self.old e.tri) e.label }
     {
+        // the flipped triangulation is one, with as many edges
         flip_laws();
         let number = self.moves.len();
         let source = e.tri();
@@ -144,16 +161,19 @@ impl Atlas {
         }
     }
 
-    /// Keeps a relabelling, whose images carry one triangulation onto the other. With `n` edges, only the first `n` images
-    /// count. There must be room, made by `reserve`.
-    pub fn push_relabel(&mut self, from: TriId, to: TriId, images: [Label; 48]) -> MoveId
+    /// Keeps a relabelling, whose images carry one triangulation onto the other. With `n` edges,
+    /// only the first `n` images count. There must be room, made by `reserve`; this uses one place
+    /// of it, and takes no memory.
+    pub fn push_relabel(&mut self, from: TriId, to: TriId, images: [Label; EDGES]) -> MoveId
         requires room { 0 < self.old.spare }
         requires from { IsTriIn self.old from }
         requires to { IsTriIn self.old to }
-        requires carries { IsRelabelling (triangulation self.old from) (triangulation self.old to) (images_kept self.old from images) }
+        requires carries { IsRelabelling (triangulation self.old from) (triangulation self.old to)
+            (images_kept self.old from images) }
         ensures triangulations { self.new.triangulations ≡ self.old.triangulations }
-        ensures moves { self.new.moves ≡ self.old.moves ++ relabel_entry self.old from to images ∷ [] }
-        ensures spare { self.old.spare ≤ self.new.spare + 1 }
+        ensures moves { self.new.moves
+            ≡ self.old.moves ++ relabel_entry self.old from to images ∷ [] }
+        ensures spare { self.new.spare + 1 ≡ self.old.spare }
         ensures handle { result ≡ newest self.old.moves }
         ensures grows { Grows self.old self.new }
         ensures here { IsMoveIn self.new result }
@@ -204,8 +224,11 @@ impl Atlas {
     /// What a move does.
     pub fn step(&self, m: MoveId) -> Step
         requires { IsMoveIn self.now m }
-        ensures { move_of (edge_count (triangulation self.now (source_of self.now m))) result ≡ step_of self.now m }
+        ensures { move_of (edge_count (triangulation self.now (source_of self.now m))) result
+            ≡ step_of self.now m }
     {
+        // a relabelling is a bijection of labels, so it can be read backwards
+        relabelling_laws();
         let kept = &self.moves[m.number];
         if m.backwards {
             backwards(&kept.step, self.edges as usize)
@@ -229,8 +252,9 @@ impl Atlas {
         }
     }
 
-    /// Brings an edge across a move from its triangulation: to the same label for a flip, to the new label for a
-    /// relabelling. It is new exactly where a flip took the edge away and put another in its place.
+    /// Brings an edge across a move from its triangulation: to the same label for a flip, to the
+    /// new label for a relabelling. It is new exactly where a flip took the edge away and put
+    /// another in its place.
     pub fn carry(&self, m: MoveId, e: EdgeId) -> Carried
         requires here { IsMoveIn self.now m }
         requires edge { IsEdgeIn self.now e }
@@ -248,7 +272,7 @@ impl Atlas {
         }
     }
 
-    // The edge after a move.
+    /// The edge after a move.
     fn edge_after(&self, m: MoveId, e: EdgeId) -> EdgeId
         requires here { IsMoveIn self.now m }
         requires edge { IsEdgeIn self.now e }
@@ -256,6 +280,7 @@ impl Atlas {
         ensures value { result ≡ edge_after self.now m e }
         ensures here { IsEdgeIn self.now result }
     {
+        // a label of the first triangulation goes to a label of the second
         map_laws();
         let kept = &self.moves[m.number];
         EdgeId {
@@ -264,7 +289,7 @@ impl Atlas {
         }
     }
 
-    // Whether a move is a flip, forwards or backwards.
+    /// Whether a move is a flip, forwards or backwards.
     pub(crate) fn is_flip(&self, m: MoveId) -> bool
         requires { IsMoveIn self.now m }
         ensures { result ≡ is_flip (step_of self.now m) }
@@ -274,12 +299,13 @@ impl Atlas {
     }
 }
 
-// The flip of an edge, with the sides of its two triangles.
+/// The flip of an edge, with the sides of its two triangles.
 fn flip_step(tri: &Tri, x: Label) -> Step
     requires sound { IsTriangulation tri.now }
     requires label { IsLabel tri.now x }
     ensures { (n : ℕ) → move_of n result ≡ flip_of tri.now x }
 {
+    // the side after a label is a label too
     surface_laws();
     let a = tri.next(x);
     let c = tri.next(x.inverse());

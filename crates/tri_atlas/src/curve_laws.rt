@@ -2,8 +2,8 @@
 ghost use Rattle.tri_atlas.specs.VectorLaws.{VectorLaws};
 
 use ideal_tri::{
-    corner_laws, drawing_laws, flip_laws, same_curves_laws, strand_laws, surface_laws, triple_laws,
-    word_laws,
+    bijection_laws, corner_laws, drawing_laws, flip_laws, label_laws, relabelling_laws,
+    same_curves_laws, strand_laws, surface_laws, word_laws,
 };
 
 /// What is proved of the vectors of multicurves: after a move or a path, the rule with the maximum
@@ -11,11 +11,13 @@ use ideal_tri::{
 pub fn vector_laws()
     ensures { VectorLaws }
 {
+    label_laws();
     word_laws();
-    same_curves_laws();
     surface_laws();
-    triple_laws();
     flip_laws();
+    bijection_laws();
+    relabelling_laws();
+    same_curves_laws();
     corner_laws();
     drawing_laws();
     strand_laws();

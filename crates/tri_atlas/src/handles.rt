@@ -18,8 +18,9 @@ impl Model for TriId {
     ghost inverse = { λ n. record { 0 = n } };
 }
 
-/// A directed edge of a triangulation of an atlas. A flip reuses the number of an edge, so that a label means nothing
-/// without its triangulation: only an atlas makes these, and `Atlas::carry` alone brings one across a move.
+/// A directed edge of a triangulation of an atlas. A flip reuses the number of an edge, so that a
+/// label means nothing without its triangulation: only an atlas makes these, and `Atlas::carry`
+/// alone brings one across a move.
 #[derive(Clone, Copy, Debug, PartialEq, Eq)]
 pub struct EdgeId {
     pub(crate) tri: TriId,

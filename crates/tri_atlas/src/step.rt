@@ -1,19 +1,21 @@
 //! What a move does, and what becomes of an edge.
-ghost use Rattle.std.specs.Prelude.{◌≡◌, ◌<◌, ℕ, true, false, length, take};
+ghost use Rattle.std.specs.Prelude.{◌≡◌, ◌<◌, ◌≤◌, ℕ, true, false, length, take};
 ghost use Rattle.ideal_tri.specs.Labels.{edge_of};
-ghost use Rattle.ideal_tri.specs.Relabellings.{image_of};
-ghost use Rattle.tri_atlas.specs.Moves.{origin_of, inverse_images, back_of};
+ghost use Rattle.ideal_tri.specs.Relabellings.{image_of, origin_of, inverse_images};
+ghost use Rattle.tri_atlas.specs.Moves.{back_of};
 ghost use Rattle.tri_atlas.specs.Arena.{label_after, is_flipped_by};
 ghost use Rattle.tri_atlas.specs.Paths.{is_flip};
 ghost use Rattle.tri_atlas.specs.Steps.{move_of};
+ghost use Rattle.tri_atlas.specs.inside.Backwards.{IsBijective};
 
 use crate::handles::EdgeId;
-use ideal_tri::Label;
+use ideal_tri::{EDGES, Label, bijection_laws, inverse_images};
 
 /// What a move does.
 #[derive(Clone, Copy, Debug)]
 pub enum Step {
-    /// The triangles `(e, a, b)` and `(~e, c, d)` become `(e, d, a)` and `(~e, b, c)`, where `~e` is the other direction of `e`.
+    /// The triangles `(e, a, b)` and `(~e, c, d)` become `(e, d, a)` and `(~e, b, c)`, where `~e`
+    /// is the other direction of `e`.
     Flip {
         e: Label,
         a: Label,
@@ -21,7 +23,8 @@ pub enum Step {
         c: Label,
         d: Label,
     },
-    /// A flip backwards, with the sides as the flip named them: `(e, d, a)` and `(~e, b, c)` become `(e, a, b)` and `(~e, c, d)`.
+    /// A flip backwards, with the sides as the flip named them: `(e, d, a)` and `(~e, b, c)` become
+    /// `(e, a, b)` and `(~e, c, d)`.
     Unflip {
         e: Label,
         a: Label,
@@ -29,9 +32,9 @@ pub enum Step {
         c: Label,
         d: Label,
     },
-    /// The labels `0` to `n - 1` get these new labels, with `n` edges, and `~x` the other direction of that of `x`.
-    /// Only the first `n` entries count.
-    Relabel([Label; 48]),
+    /// The labels `0` to `n - 1` get these new labels, with `n` edges, and `~x` the other direction
+    /// of that of `x`. Only the first `n` entries count.
+    Relabel([Label; EDGES]),
 }
 
 /// An edge after a move.
@@ -43,9 +46,9 @@ pub enum Carried {
     New(EdgeId),
 }
 
-// The label whose new label is `x`, among those of the edges that have these new labels.
+/// The label whose new label is `x`, among those of the edges that have these new labels.
 fn origin(images: &[Label], x: Label) -> Label
-    requires { length images.now < 49 }
+    requires { length images.now ≤ EDGES }
     ensures { result ≡ origin_of images.now x }
 {
     for k in 0..images.len() {
@@ -60,21 +63,10 @@ fn origin(images: &[Label], x: Label) -> Label
     x
 }
 
-// The images under the relabelling backwards.
-fn inverse_images(images: &[Label; 48], edges: usize) -> [Label; 48]
-    requires { edges < 49 }
-    ensures { take edges result ≡ inverse_images (take edges images.now) }
-{
-    let mut inverse = [Label::new(0); 48];
-    for n in 0..edges {
-        inverse[n] = origin(&images[..edges], Label::new(n as i32));
-    }
-    inverse
-}
-
-// The same move, the other way, with this number of edges.
+/// The same move, the other way, with this number of edges.
 pub(crate) fn backwards(step: &Step, edges: usize) -> Step
-    requires { edges < 49 }
+    requires edges { edges ≤ EDGES }
+    requires bijective { IsBijective (move_of edges step.now) }
     ensures { move_of edges result ≡ back_of (move_of edges step.now) }
 {
     match step {
@@ -96,9 +88,9 @@ pub(crate) fn backwards(step: &Step, edges: usize) -> Step
     }
 }
 
-// The label of an edge after a move with this number of edges, forwards or backwards.
+/// The label of an edge after a move with this number of edges, forwards or backwards.
 pub(crate) fn label_after(step: &Step, edges: usize, backwards: bool, x: Label) -> Label
-    requires edges { edges < 49 }
+    requires edges { edges ≤ EDGES }
     requires label { edge_of x < edges }
     ensures forwards { backwards ≡ false → result ≡ label_after (move_of edges step.now) x }
     ensures back { backwards ≡ true → result ≡ label_after (back_of (move_of edges step.now)) x }
@@ -115,9 +107,9 @@ pub(crate) fn label_after(step: &Step, edges: usize, backwards: bool, x: Label) 
     }
 }
 
-// The new label of `x` where those of the edges are these.
-fn image(images: &[Label; 48], edges: usize, x: Label) -> Label
-    requires edges { edges < 49 }
+/// The new label of `x` where those of the edges are these.
+fn image(images: &[Label; EDGES], edges: usize, x: Label) -> Label
+    requires edges { edges ≤ EDGES }
     requires label { edge_of x < edges }
     ensures { result ≡ image_of (take edges images.now) x }
 {
@@ -125,16 +117,18 @@ fn image(images: &[Label; 48], edges: usize, x: Label) -> Label
     if x.get() < 0 { edge.inverse() } else { edge }
 }
 
-// The new label of `x` under the relabelling backwards.
-fn image_back(images: &[Label; 48], edges: usize, x: Label) -> Label
-    requires edges { edges < 49 }
+/// The new label of `x` under the relabelling backwards.
+fn image_back(images: &[Label; EDGES], edges: usize, x: Label) -> Label
+    requires edges { edges ≤ EDGES }
     requires label { edge_of x < edges }
     ensures { result ≡ image_of (inverse_images (take edges images.now)) x }
 {
+    // the origin that is found is the image under the inverse images
+    bijection_laws();
     origin(&images[..edges], x)
 }
 
-// Whether a move takes the edge of this label away, forwards or backwards.
+/// Whether a move takes the edge of this label away, forwards or backwards.
 pub(crate) fn is_flipped(step: &Step, x: Label) -> bool
     ensures { (n : ℕ) → result ≡ is_flipped_by (move_of n step.now) x }
 {
@@ -144,7 +138,7 @@ pub(crate) fn is_flipped(step: &Step, x: Label) -> bool
     }
 }
 
-// Whether a move is a flip, forwards or backwards.
+/// Whether a move is a flip, forwards or backwards.
 pub(crate) fn is_flip(step: &Step) -> bool
     ensures { (n : ℕ) → result ≡ is_flip (move_of n step.now) }
 {

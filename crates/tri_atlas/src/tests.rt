@@ -1,4 +1,4 @@
-// The once-punctured torus, the flip of its edge 0, and the relabelling that turns its triangles.
+// The once-punctured torus and the flip of its edge 0, there and back.
 ghost use Rattle.std.specs.Prelude.{◌≡◌};
 ghost use Rattle.tri_atlas.specs.Arena.{IsEdgeIn, IsMoveIn, source_of, target_of};
 ghost use Rattle.tri_atlas.specs.Steps.{edge_in};
@@ -7,7 +7,7 @@ use super::*;
 use ideal_tri::{Label, Tri};
 use std::test::Fail;
 
-// The edge that was carried.
+/// The edge that was carried.
 fn edge(carried: Carried) -> EdgeId
     ensures { result ≡ edge_in carried }
 {
@@ -16,7 +16,7 @@ fn edge(carried: Carried) -> EdgeId
     }
 }
 
-// The edge after two moves. Without the first `carry` its handle would be of no use to the second.
+/// The edge after two moves. Without the first `carry` its handle would be of no use to the second.
 fn across_both(atlas: &Atlas, first: MoveId, second: MoveId, e: EdgeId) -> EdgeId
     requires first { IsMoveIn atlas.now first }
     requires second { IsMoveIn atlas.now second }
@@ -64,26 +64,5 @@ fn flip_and_back(rt: HostRuntime) -> Result<(), Fail> {
     assert!(rt; matches!(atlas.step(back.moves()[0]), Step::Unflip { .. }));
     path.append(&back)?;
     assert_eq!(rt; path.flips(&atlas), 2);
-    Ok(())
-}
-
-#[test]
-fn turn(rt: HostRuntime) -> Result<(), Fail> {
-    let torus = Tri::from_triples(&[[0, 1, 2], [-1, -2, -3]])?;
-    let mut atlas = Atlas::new(rt.alloc(), torus)?;
-    atlas.reserve(1)?;
-    let base = atlas.base();
-    let mut images = [Label::new(0); 48];
-    images[0] = Label::new(1);
-    images[1] = Label::new(2);
-    let m = atlas.push_relabel(base, base, images);
-    let e = atlas.edge(base, -1).expect(&rt, "a label");
-    assert_eq!(rt; edge(atlas.carry(m, e)).label(), Label::new(-2));
-    assert_eq!(rt; edge(atlas.carry(atlas.back(m), e)).label(), Label::new(-3));
-    let first = match atlas.step(atlas.back(m)) {
-        Step::Relabel(images) => images[0],
-        Step::Flip { e, .. } | Step::Unflip { e, .. } => e,
-    };
-    assert_eq!(rt; first, Label::new(2));
     Ok(())
 }

@@ -1,7 +1,7 @@
 -- The fields of coordinates are those that their numbers give.
 use Rattle.std.proofs.Common.{ℕ, List, ◌++◌, ◌≡◌, ◌≤◌, ◌-◌, sym, ◌∙◌, ap, arith, length, take}
 use Rattle.std.proofs.lemmas.List.{length-take-le, take-append-drop}
-use Rattle.edge_coords.specs.declared.coords.TheConstants.{EDGES}
+use Rattle.ideal_tri.specs.declared.tri.TheConstants.{EDGES}
 use Rattle.edge_coords.specs.inside.LaidOut.{IsLaidOut, spare_numbers}
 
 pub count_again : (count : ℕ) (numbers : List ℕ) → IsLaidOut count numbers → length (take count numbers) ≡ count

@@ -1,7 +1,7 @@
 -- How coordinates are laid out: in an array with one place for each of the most edges, with zeros after the last.
 use Rattle.std.specs.Prelude.{◌≡◌, ◌<◌, ◌≤◌, ◌-◌, ◌+◌, ◌++◌, ℕ, List, length, take, drop, replicate, All}
 use Rattle.edge_coords.specs.Coordinates.{AreSmall}
-use Rattle.edge_coords.specs.declared.coords.TheConstants.{EDGES}
+use Rattle.ideal_tri.specs.declared.tri.TheConstants.{EDGES}
 
 -- zeros
 unfoldable pub spare_numbers : ℕ → List ℕ

@@ -4,7 +4,8 @@
 -- A run of such a family is a rotation of the cycle of each thing that it uses, forwards or backwards. So of the runs
 -- of another family exactly one is alike to it: the one that uses its first element. Sums over both families that don't
 -- tell alike runs apart are therefore equal; no permutation between the two is built.
-use Rattle.std.proofs.Common.{ℕ, Bool, true, false, cond, ltb, List, [], ◌∷◌, ◌++◌, ◌≡◌, ◌≢◌, ◌≤◌, ◌+◌, ◌⊎◌, inl, inr, refl, sym, ◌∙◌, ap, arith, length, length-append}
+use Rattle.std.proofs.Common.{ℕ, Bool, true, false, cond, ltb, List, [], ◌∷◌, ◌++◌, ◌≡◌, ◌≢◌, ◌≤◌, ◌+◌, ◌⊎◌, inl, inr}
+use Rattle.std.proofs.Common.{refl, sym, ◌∙◌, ap, arith, length, length-append}
 use Rattle.std.specs.List.{All, count_by, sum_by, flat_map}
 use Rattle.std.proofs.lemmas.Bool.{cases_eq, lt-ltb}
 use Rattle.std.proofs.lemmas.List.Elements.{All-nil, All-cons, All-head, All-tail}

@@ -3,7 +3,8 @@
 --
 -- The counts at the three corners of a triangle are p, q and r, so its sides are p + r, q + p and r + q: their sum is
 -- even and none is longer than the other two. The sum of two multicurves is of this kind.
-use Rattle.std.proofs.Common.{ℕ, ℤ, List, [], ◌∷◌, ◌≡◌, ◌<◌, ◌+◌, ◌-◌, ◌*◌, ◌/◌, ◌%◌, sym, ◌∙◌, ap, subst, arith, length, get_or}
+use Rattle.std.proofs.Common.{ℕ, ℤ, List, [], ◌∷◌, ◌≡◌, ◌<◌, ◌+◌, ◌-◌, ◌*◌, ◌/◌, ◌%◌, sym, ◌∙◌, ap, subst, arith}
+use Rattle.std.proofs.Common.{length, get_or}
 use Rattle.std.specs.Prelude.{slice_index}
 use Rattle.std.proofs.lemmas.List.{get_or_default}
 use Rattle.ideal_tri.specs.Labels.{edge_of}

@@ -3,7 +3,8 @@
 -- What is shown of families of closed runs says that each multicurve has a drawing, that one alone begins each curve at
 -- its least strand in rising order, and, since the way back of a run has the inverse word, that the words of any two
 -- drawings are the same curves.
-use Rattle.std.proofs.Common.{ℕ, ℤ, pos, Bool, true, cond, leb, List, [], ◌∷◌, ◌++◌, ◌≡◌, ◌≢◌, ◌≤◌, ◌<◌, ◌↔◌, inl, inr, refl, sym, ◌∙◌, ap, subst, arith, length, map}
+use Rattle.std.proofs.Common.{ℕ, ℤ, pos, Bool, true, cond, leb, List, [], ◌∷◌, ◌++◌, ◌≡◌, ◌≢◌, ◌≤◌, ◌<◌, ◌↔◌, inl, inr}
+use Rattle.std.proofs.Common.{refl, sym, ◌∙◌, ap, subst, arith, length, map}
 use Rattle.std.specs.List.{All, AllPass}
 use Rattle.std.specs.List.Sorted.{IsStrictlyIncreasing}
 use Rattle.std.proofs.lemmas.Bool.{leb-true, le-leb}
@@ -14,7 +15,8 @@ use Rattle.ideal_tri.specs.Labels.{inverse, edge_of}
 use Rattle.ideal_tri.specs.Words.{inverse_word, IsRotation}
 use Rattle.ideal_tri.specs.Curves.{IsSameCurve, IsSameCurves, is_same_curve, crossings}
 use Rattle.ideal_tri.specs.Strands.{State, state_at, IsStrand, IsClosedRun, IsDrawing, opposite, word_of, words_of}
-use Rattle.ideal_tri.specs.Drawings.{strand_number, strands, curve_from, least_among, draw, BeginsAtLeast, first_number, IsRising}
+use Rattle.ideal_tri.specs.Drawings.{strand_number, strands, curve_from, least_among, draw, BeginsAtLeast, first_number}
+use Rattle.ideal_tri.specs.Drawings.{IsRising}
 use Rattle.ideal_tri.proofs.Rotations.{Rotation-map, is_same_curve-respects}
 use Rattle.ideal_tri.proofs.Crossings.{drawing_counts}
 use Rattle.ideal_tri.proofs.Drawings.Tallies.{count_by-map}

@@ -3,7 +3,8 @@
 -- A side is crossed by the strands round its two ends. The corners there belong to the vertices of the two ends, so
 -- what is left of the side, when each corner has lost the least count of its vertex, is again a sum of two counts, the
 -- same seen from both triangles. A vector whose sides are such sums is that of a multicurve.
-use Rattle.std.proofs.Common.{ℕ, zero, suc, ℤ, pos, negsuc, List, ◌≡◌, ◌≤◌, ◌+◌, ◌-◌, ◌*◌, min, inl, inr, refl, sym, ◌∙◌, ap, subst, arith, length}
+use Rattle.std.proofs.Common.{ℕ, zero, suc, ℤ, pos, negsuc, List, ◌≡◌, ◌≤◌, ◌+◌, ◌-◌, ◌*◌, min, inl, inr, refl, sym}
+use Rattle.std.proofs.Common.{◌∙◌, ap, subst, arith, length}
 use Rattle.std.specs.Prelude.{slice_index}
 use Rattle.std.proofs.lemmas.Bool.{cases_lt}
 use Rattle.std.proofs.lemmas.List.{same_lists, get_or_default}

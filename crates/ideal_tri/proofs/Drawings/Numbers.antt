@@ -3,7 +3,8 @@
 -- Where the vector is u ++ v and u has e entries, the strands of the edges from e on have the numbers from the sum of u
 -- on, edge by edge: those of the edge e, with n strands, are the n numbers that follow, and those of the later edges
 -- are not less than the sum of u and n.
-use Rattle.std.proofs.Common.{ℕ, zero, suc, pos, List, [], ◌∷◌, ◌++◌, ◌≡◌, ◌≢◌, ◌≤◌, ◌<◌, ◌+◌, inl, inr, refl, sym, ◌∙◌, ap, subst, append_assoc, arith, length, length-append, map, take, get_or}
+use Rattle.std.proofs.Common.{ℕ, zero, suc, pos, List, [], ◌∷◌, ◌++◌, ◌≡◌, ◌≢◌, ◌≤◌, ◌<◌, ◌+◌, inl, inr, refl, sym, ◌∙◌}
+use Rattle.std.proofs.Common.{ap, subst, append_assoc, arith, length, length-append, map, take, get_or}
 use Rattle.std.specs.List.{All, sum, count_by, range_with_len}
 use Rattle.std.specs.Prelude.{slice_index}
 use Rattle.std.proofs.lemmas.Bool.{cases_eq}

@@ -3,7 +3,8 @@
 -- Each thing has an opposite one and one across; going back is the same map again, and nothing is its own partner. A
 -- step goes to the opposite thing and then across. Steps are injective, so the values from q on are different until q
 -- comes back, and there are only so many things: q does come back. What stands before it is the cycle of q.
-use Rattle.std.proofs.Common.{ℕ, zero, suc, Bool, true, false, cond, List, [], ◌∷◌, ◌++◌, ◌≡◌, ◌≢◌, ◌≤◌, ◌+◌, ◌⊎◌, inl, inr, refl, sym, ◌∙◌, ap, subst, arith, length, length-append, map}
+use Rattle.std.proofs.Common.{ℕ, zero, suc, Bool, true, false, cond, List, [], ◌∷◌, ◌++◌, ◌≡◌, ◌≢◌, ◌≤◌, ◌+◌, ◌⊎◌, inl}
+use Rattle.std.proofs.Common.{inr, refl, sym, ◌∙◌, ap, subst, arith, length, length-append, map}
 use Rattle.std.specs.Bool.{Decides}
 use Rattle.std.specs.List.{All, count_by}
 use Rattle.std.proofs.lemmas.Bool.{cases_Bool}

@@ -4,7 +4,8 @@
 -- in reverse order; it is a run since the step from the opposite of a step leads to the opposite. A closed run ends
 -- where it begins: it stays closed when it begins at another of its places, and its way back is closed. It passes a
 -- thing as often as its step, since with its first thing at the end it is the list of its steps.
-use Rattle.std.proofs.Common.{Bool, true, false, cond, not, List, [], ◌∷◌, ◌++◌, ◌≡◌, ◌≢◌, ◌<◌, ◌+◌, ◌⊎◌, inl, inr, refl, sym, ◌∙◌, ap, subst, arith, length, length-append, map, take, one-add}
+use Rattle.std.proofs.Common.{Bool, true, false, cond, not, List, [], ◌∷◌, ◌++◌, ◌≡◌, ◌≢◌, ◌<◌, ◌+◌, ◌⊎◌, inl, inr}
+use Rattle.std.proofs.Common.{refl, sym, ◌∙◌, ap, subst, arith, length, length-append, map, take, one-add}
 use Rattle.std.specs.List.{All, before_first, prefix_len}
 use Rattle.std.proofs.lemmas.List.Elements.{All-nil, All-cons, All-head, All-tail, All-append}
 use Rattle.ideal_tri.specs.Words.{IsRotation}

@@ -6,7 +6,8 @@ use Rattle.ideal_tri.specs.Labels.{edge_of}
 use Rattle.ideal_tri.specs.Curves.{IsSameCurve, IsSameCurves, is_same_curve, crossings}
 use Rattle.ideal_tri.specs.DrawingLaws.{SameCurvesLaws}
 use Rattle.ideal_tri.proofs.Labels.{edge_of-inverse}
-use Rattle.ideal_tri.proofs.Rotations.{SameCurve-refl, is_same_curve-sound, is_same_curve-complete, is_same_curve-respects, SameCurve-count_by}
+use Rattle.ideal_tri.proofs.Rotations.{SameCurve-refl, is_same_curve-sound, is_same_curve-complete}
+use Rattle.ideal_tri.proofs.Rotations.{is_same_curve-respects, SameCurve-count_by}
 use Rattle.ideal_tri.proofs.Drawings.Tallies.{count_by-cons, count_by-append, count_by-map, count_by-flat, same_sum}
 
 pub SameCurves-refl : (us : List (List ℤ)) → IsSameCurves us us

@@ -3,13 +3,15 @@
 -- The opposite of a state is the same strand seen from the other side of its edge; across is the other end of the
 -- strand in its triangle. Of each two opposite states one has a label that is not negative, and these are the sides. A
 -- drawing uses each of them once, so it uses each pair of opposite states once.
-use Rattle.std.proofs.Common.{ℕ, ℤ, pos, negsuc, List, [], ◌∷◌, ◌≡◌, ◌≢◌, ◌<◌, ◌+◌, ◌-◌, ◌⊎◌, inl, inr, refl, sym, ◌∙◌, ap, subst, arith, length}
+use Rattle.std.proofs.Common.{ℕ, ℤ, pos, negsuc, List, [], ◌∷◌, ◌≡◌, ◌≢◌, ◌<◌, ◌+◌, ◌-◌, ◌⊎◌, inl, inr, refl, sym, ◌∙◌}
+use Rattle.std.proofs.Common.{ap, subst, arith, length}
 use Rattle.std.specs.List.{All, count_by}
 use Rattle.std.proofs.lemmas.List.Elements.{All-head, All-weaker}
 use Rattle.ideal_tri.specs.Labels.{edge_of}
 use Rattle.ideal_tri.specs.Triangulations.{IsLabel, IsTriangulation, edge_count, previous}
 use Rattle.ideal_tri.specs.Vectors.{IsMulticurve, weight, corner_count}
-use Rattle.ideal_tri.specs.Strands.{State, state_at, IsStrand, same_state, opposite, cross, strand_step, Runs, IsClosedRun, IsDrawing}
+use Rattle.ideal_tri.specs.Strands.{State, state_at, IsStrand, same_state, opposite, cross, strand_step, Runs}
+use Rattle.ideal_tri.specs.Strands.{IsClosedRun, IsDrawing}
 use Rattle.ideal_tri.specs.SurfaceLaws.{TriangleLaws}
 use Rattle.ideal_tri.specs.Drawings.{strand_number, strands}
 use Rattle.ideal_tri.proofs.Triangles.{triangle_laws}

@@ -4,7 +4,8 @@
 -- same value throughout each. If both lists have as many elements of each class, then the sums of the function are
 -- equal: the first element of one list has a partner in the other; both are taken out, and the rest follows by
 -- induction.
-use Rattle.std.proofs.Common.{ℕ, Bool, true, false, cond, List, [], ◌∷◌, ◌++◌, ◌≡◌, ◌≢◌, ◌+◌, suc, inl, inr, refl, sym, ◌∙◌, ap, subst, arith, map}
+use Rattle.std.proofs.Common.{ℕ, Bool, true, false, cond, List, [], ◌∷◌, ◌++◌, ◌≡◌, ◌≢◌, ◌+◌, suc, inl, inr, refl, sym}
+use Rattle.std.proofs.Common.{◌∙◌, ap, subst, arith, map}
 use Rattle.std.specs.List.{All, count_by, sum_by, flat_map}
 use Rattle.std.proofs.lemmas.Bool.{cases_Bool}
 use Rattle.std.proofs.lemmas.List.Elements.{All-nil, All-cons, All-head, All-tail, All-append}

@@ -5,7 +5,8 @@
 -- the ones round its tail; places are counted from the other end there. So a step, over an edge and through the next
 -- triangle, keeps the place of a strand round the tail of its label, and any other strand passes the corner behind
 -- that.
-use Rattle.std.proofs.Common.{ℕ, ℤ, Bool, cond, eqb, List, ◌≡◌, ◌≢◌, ◌≤◌, ◌<◌, ◌+◌, ◌-◌, inl, inr, sym, ◌∙◌, ap, subst, arith}
+use Rattle.std.proofs.Common.{ℕ, ℤ, Bool, cond, eqb, List, ◌≡◌, ◌≢◌, ◌≤◌, ◌<◌, ◌+◌, ◌-◌, inl, inr, sym, ◌∙◌, ap, subst}
+use Rattle.std.proofs.Common.{arith}
 use Rattle.std.specs.Bool.{Decides}
 use Rattle.std.specs.Ordering.{int_eq}
 use Rattle.std.specs.Prelude.{slice_index}

@@ -15,7 +15,8 @@ use Rattle.ideal_tri.proofs.Drawings.Runs as R
 use Rattle.ideal_tri.proofs.Drawings.Cycles as C
 use Rattle.ideal_tri.proofs.Drawings.Alike as L
 use Rattle.ideal_tri.proofs.Drawings.InOrder as I
-use Rattle.ideal_tri.proofs.Drawings.States.{Setting, setting, pairings, numbering, to_runs, to_closed, from_closed, to_family}
+use Rattle.ideal_tri.proofs.Drawings.States.{Setting, setting, pairings, numbering, to_runs, to_closed, from_closed}
+use Rattle.ideal_tri.proofs.Drawings.States.{to_family}
 
 module _ {A : Type 0} (s : Pairings A) where
   -- closed runs use a thing as often as its step

@@ -3,7 +3,8 @@
 -- A curve turns on where each of its states lies within the corner at the tail of its label. From one such state to the
 -- next the corner takes a step round its vertex, so the curve goes through all corners there, which therefore have
 -- strands. Where it turns back it goes through them the other way round.
-use Rattle.std.proofs.Common.{ℕ, zero, suc, ℤ, List, [], ◌∷◌, ◌++◌, ◌≡◌, ◌≢◌, ◌<◌, inl, inr, refl, sym, ◌∙◌, ap, subst, arith}
+use Rattle.std.proofs.Common.{ℕ, zero, suc, ℤ, List, [], ◌∷◌, ◌++◌, ◌≡◌, ◌≢◌, ◌<◌, inl, inr, refl, sym, ◌∙◌, ap, subst}
+use Rattle.std.proofs.Common.{arith}
 use Rattle.std.specs.List.{All}
 use Rattle.std.proofs.lemmas.Bool.{cases_lt}
 use Rattle.std.proofs.lemmas.List.Elements.{All-nil, All-cons, All-head, All-tail}
@@ -16,7 +17,8 @@ use Rattle.ideal_tri.specs.Peripheral.{AllNeighbours, IsPeripheral}
 use Rattle.ideal_tri.specs.Vertices.{corner_step, corner_after, IsSameVertex}
 use Rattle.ideal_tri.specs.PeripheralParts.{HasFreeCorners}
 use Rattle.ideal_tri.proofs.Labels.{inverse-inverse, inverse_label}
-use Rattle.ideal_tri.proofs.Turning.{corner_step-injective, corner_after_label, corner_after-suc, SameVertex-sym, SameVertex_label}
+use Rattle.ideal_tri.proofs.Turning.{corner_step-injective, corner_after_label, corner_after-suc, SameVertex-sym}
+use Rattle.ideal_tri.proofs.Turning.{SameVertex_label}
 use Rattle.ideal_tri.proofs.Drawings.Through as T
 use Rattle.ideal_tri.proofs.Drawings.Orbits as O
 use Rattle.ideal_tri.proofs.Drawings.Orbits.{Pairings}

@@ -2,14 +2,16 @@
 --
 -- A strand leaves a triangle by another side than the one where it enters: the next letter starts in the triangle where
 -- the one before ends, and is not its inverse. This holds all round, since the last state steps to the first.
-use Rattle.std.proofs.Common.{ℕ, ℤ, Bool, true, false, cond, leb, List, [], ◌∷◌, ◌++◌, ◌≡◌, ◌≢◌, ◌<◌, ◌-◌, ◌⊎◌, inl, inr, refl, sym, ◌∙◌, ap, subst, arith, length}
+use Rattle.std.proofs.Common.{ℕ, ℤ, Bool, true, false, cond, leb, List, [], ◌∷◌, ◌++◌, ◌≡◌, ◌≢◌, ◌<◌, ◌-◌, ◌⊎◌, inl}
+use Rattle.std.proofs.Common.{inr, refl, sym, ◌∙◌, ap, subst, arith, length}
 use Rattle.std.specs.List.{All}
 use Rattle.std.proofs.lemmas.List.Elements.{All-head, All-tail, All-map, All-weaker}
 use Rattle.ideal_tri.specs.Labels.{inverse}
 use Rattle.ideal_tri.specs.Words.{IsReduced, IsCyclicallyReduced}
 use Rattle.ideal_tri.specs.Triangulations.{IsLabel, IsWalk, triangle_of, next, previous}
 use Rattle.ideal_tri.specs.Vectors.{weight, corner_count}
-use Rattle.ideal_tri.specs.Strands.{State, state_at, IsStrand, strand_step, Runs, IsClosedRun, IsDrawing, word_of, words_of}
+use Rattle.ideal_tri.specs.Strands.{State, state_at, IsStrand, strand_step, Runs, IsClosedRun, IsDrawing, word_of}
+use Rattle.ideal_tri.specs.Strands.{words_of}
 use Rattle.ideal_tri.specs.SurfaceLaws.{TriangleLaws}
 use Rattle.ideal_tri.proofs.Labels.{inverse_label}
 

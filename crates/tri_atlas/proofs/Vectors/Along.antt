@@ -8,7 +8,6 @@ use Rattle.std.specs.List.{All, AllZip, flat_map}
 use Rattle.std.proofs.lemmas.List.{append-nil}
 use Rattle.std.proofs.lemmas.List.Elements.{All-head, All-tail}
 use Rattle.ideal_tri.specs.Words.{reduce, cyclic_reduce, IsCyclicallyReduced}
-use Rattle.ideal_tri.specs.WordLaws.{ReductionLaws}
 use Rattle.ideal_tri.specs.Curves.{IsSameCurve, IsSameCurves}
 use Rattle.ideal_tri.specs.Drawings.{draw}
 use Rattle.ideal_tri.specs.Triangulations.{IsTriangulation, edge_count}
@@ -20,7 +19,7 @@ use Rattle.tri_atlas.specs.MapLaws.{SubstitutionLaws}
 use Rattle.tri_atlas.specs.MovedVectors.{vector_after, vector_along}
 use Rattle.tri_atlas.specs.VectorLaws.{MovedLaws, AlongLaws}
 use Rattle.tri_atlas.proofs.Flips.{flip_edges}
-use Rattle.tri_atlas.proofs.Relabellings.{same_edges}
+use Rattle.tri_atlas.proofs.LowerLaws.{LowerLaws}
 use Rattle.tri_atlas.proofs.Substitutions.{substitution_laws, flat_map-respects, flat_map-after}
 use Rattle.tri_atlas.proofs.Paths.{flat_map-identity, flat_map-same, path_map-odd, path_map-join, back_along-cons}
 use Rattle.tri_atlas.proofs.Vectors.Given.{Given}
@@ -36,11 +35,11 @@ moved_laws g before target (flip e a b c d) w p t h m = flip_laws g before targe
 moved_laws g before target (unflip e a b c d) w p t h m = unflip_laws g target before e a b c d t p h w m
 moved_laws g before target (relabel images) w p t h m = relabel_laws g before target images p t h w m
 
-pub move_edges : (before target : List (List ℤ)) (m : Move) → IsMove before target m
+pub move_edges : LowerLaws → (before target : List (List ℤ)) (m : Move) → IsMove before target m
     → edge_count target ≡ edge_count before
-move_edges before target (flip e a b c d) h = flip_edges before target e a b c d h
-move_edges before target (unflip e a b c d) h = sym (flip_edges target before e a b c d h)
-move_edges before target (relabel images) h = sym (same_edges before target images h)
+move_edges laws before target (flip e a b c d) h = flip_edges laws before target e a b c d h
+move_edges laws before target (unflip e a b c d) h = sym (flip_edges laws target before e a b c d h)
+move_edges laws before target (relabel images) h = sym (laws.relabellings.edges before target images h)
 
 -- ---- paths
 
@@ -49,11 +48,11 @@ pub path_end : (before target : List (List ℤ)) (moves : List Move) → IsTrian
 path_end before target [] p h = subst IsTriangulation h p
 path_end before target (m ∷ moves) p (between, b, move, rest) = path_end between target moves b rest
 
-pub path_edges : (before target : List (List ℤ)) (moves : List Move) → ArePath before moves target
+pub path_edges : LowerLaws → (before target : List (List ℤ)) (moves : List Move) → ArePath before moves target
     → edge_count target ≡ edge_count before
-path_edges before target [] h = ap edge_count (sym h)
-path_edges before target (m ∷ moves) (between, b, move, rest) =
-    path_edges between target moves rest ∙ move_edges before between m move
+path_edges laws before target [] h = ap edge_count (sym h)
+path_edges laws before target (m ∷ moves) (between, b, move, rest) =
+    path_edges laws between target moves rest ∙ move_edges laws before between m move
 
 pub multicurve_along : Given → (before target : List (List ℤ)) (moves : List Move) (w : List ℕ)
     → IsTriangulation before → ArePath before moves target
@@ -73,7 +72,7 @@ pub back_vector : Given → (before target : List (List ℤ)) (moves : List Move
     → IsMulticurve before w → vector_along (back_along moves) (vector_along moves w) ≡ w
 back_vector g before target [] w p h m = refl
 back_vector g before target (x ∷ moves) w p (between, b, move, rest) m =
-    ap (λ (ms : List Move). vector_along ms (vector_along moves (vector_after x w))) (back_along-cons x moves)
+    ap (λ (ms : List Move). vector_along ms (vector_along moves (vector_after x w))) (back_along-cons g.lower x moves)
     ∙ vector_along-append (back_along moves) (back_of x ∷ []) (vector_along moves (vector_after x w))
     ∙ ap (vector_after (back_of x)) (back_vector g between target moves (vector_after x w) b rest one.multicurve)
     ∙ one.back
@@ -89,7 +88,7 @@ images_stay g [] r = refl
 images_stay g (word ∷ words) r =
     ap (λ (u : List ℤ). cyclic_reduce u ∷ images_under (path_map []) words) (flat_map-identity word)
     ∙ ap (λ (u : List ℤ). u ∷ images_under (path_map []) words)
-    (g.cyclic.fixed word (All-head IsCyclicallyReduced word words r))
+    (g.lower.words.cyclic.fixed word (All-head IsCyclicallyReduced word words r))
     ∙ ap (λ (us : List (List ℤ)). word ∷ us) (images_stay g words (All-tail IsCyclicallyReduced word words r))
 
 -- the map of a path is that of its first move and then that of the others
@@ -103,8 +102,8 @@ reduce-first g m moves word =
     ∙ sym (flat_map-after r first rest word)
     ∙ sym (ap reduce (flat_map-same (path_map (m ∷ moves)) (after rest first) word (path_map-join r (m ∷ []) moves)))
   where
-    r : ReductionLaws
-    r = g.reduction
+    r : LowerLaws
+    r = g.lower
 
     first : ℤ → List ℤ
     first x = path_map (m ∷ []) x
@@ -118,11 +117,12 @@ images_after : Given → (m : Move) (moves : List Move) (words : List (List ℤ)
     (images_under (path_map moves) (images_under (image_of_letter m) words))
 images_after g m moves [] = tt
 images_after g m moves (word ∷ words) = (
-  g.curves.back (cyclic_reduce (rest (cyclic_reduce first))) (cyclic_reduce whole)
-      (g.curves.along (cyclic_reduce (rest (cyclic_reduce first))) (cyclic_reduce (rest first)) (cyclic_reduce whole)
-      (inl ((substitution_laws g.reduction g.cyclic g.curves).cyclic (path_map moves) first
-      (path_map-odd g.reduction moves)))
-      (inl (g.cyclic.conjugate [] (rest first) whole
+  g.lower.words.curves.back (cyclic_reduce (rest (cyclic_reduce first))) (cyclic_reduce whole)
+      (g.lower.words.curves.along (cyclic_reduce (rest (cyclic_reduce first))) (cyclic_reduce (rest first))
+      (cyclic_reduce whole)
+      (inl ((substitution_laws g.lower).cyclic (path_map moves) first
+      (path_map-odd g.lower moves)))
+      (inl (g.lower.words.cyclic.conjugate [] (rest first) whole
       (ap reduce (append-nil (rest first)) ∙ reduce-first g m moves word)))),
   images_after g m moves words,
 )
@@ -149,12 +149,12 @@ curves_along g before target (x ∷ moves) w p (between, b, move, rest) m runs e
     (g.same.entrywise whole (onwards first) (images_after g x moves (words_of runs)))
     (g.same.along (onwards first) (onwards (words_of middle)) (words_of end)
     (g.same.mapped (λ u. cyclic_reduce (flat_map (path_map moves) u))
-    (λ u v s. laws.curve (path_map moves) u v (path_map-odd g.reduction moves) s)
+    (λ u v s. laws.curve (path_map moves) u v (path_map-odd g.lower moves) s)
     first (words_of middle) (one.curves runs middle d drawn))
     (curves_along g between target moves (vector_after x w) b rest one.multicurve middle end drawn e))
   where
     laws : SubstitutionLaws
-    laws = substitution_laws g.reduction g.cyclic g.curves
+    laws = substitution_laws g.lower
 
     one : MovedLaws before between x w
     one = moved_laws g before between x w p b move m
@@ -181,8 +181,8 @@ pub along_laws : Given → (before target : List (List ℤ)) (moves : List Move)
 along_laws g before target moves w p h m = record {
   multicurve = multicurve_along g before target moves w p h m;
   curves = curves_along g before target moves w p h m;
-  image = image_of_curves g before target w (vector_along moves w) (path_map moves) (path_end before target moves p h)
-      (multicurve_along g before target moves w p h m) (path_edges before target moves h)
+  image = image_of_curves g before target w (vector_along moves w) (path_map moves) (path_end before target moves p h) m
+      (multicurve_along g before target moves w p h m) (path_edges g.lower before target moves h)
       (curves_along g before target moves w p h m);
   back = back_vector g before target moves w p h m;
 }

@@ -6,18 +6,18 @@ use Rattle.ideal_tri.specs.SurfaceLaws.{TriangleLaws}
 use Rattle.ideal_tri.specs.Triangulations.{IsLabel, next, previous}
 use Rattle.ideal_tri.specs.Vectors.{weight, corner_count}
 use Rattle.ideal_tri.specs.Strands.{State, state_at, strand_step}
-use Rattle.tri_atlas.proofs.Flips.{inverse_label}
+use Rattle.tri_atlas.proofs.LowerLaws.{LowerLaws}
 use Rattle.tri_atlas.proofs.Vectors.Quadrilaterals.{Quadrilateral, IsApartFrom, next_apart, apart_off}
 
-module _ (here there : List (List ℤ)) (w v : List ℕ) (e f a b c d : ℤ) (t : TriangleLaws here)
+module _ (laws : LowerLaws) (here there : List (List ℤ)) (w v : List ℕ) (e f a b c d : ℤ) (t : TriangleLaws here)
     (s : Quadrilateral here e f a b c d)
     (others : (x : ℤ) → IsLabel here x → IsApartFrom e f a b c d x → next there x ≡ next here x)
     (numbers : (x : ℤ) → edge_of x ≢ edge_of e → weight v x ≡ weight w x) where
   away : (x : ℤ) → IsLabel here x → IsApartFrom e f a b c d x → IsApartFrom e f a b c d (next here x)
-  away = next_apart here e f a b c d t s
+  away = next_apart laws here e f a b c d t s
 
   number : (x : ℤ) → IsApartFrom e f a b c d x → weight v x ≡ weight w x
-  number x q = numbers x (apart_off here e f a b c d t s x q)
+  number x q = numbers x (apart_off laws here e f a b c d t s x q)
 
   pub apart_previous : (x : ℤ) → IsLabel here x → IsApartFrom e f a b c d x → previous there x ≡ previous here x
   apart_previous x l q = ap (next there) (others x l q) ∙ others (next here x) (t.label x l) (away x l q)
@@ -67,7 +67,7 @@ module _ (here there : List (List ℤ)) (w v : List ℕ) (e f a b c d : ℤ) (t 
       i = weight w q.label - 1 - q.place
 
       lx : IsLabel here (inverse q.label)
-      lx = inverse_label here q.label l
+      lx = laws.labels.label here q.label l
 
       lz : IsLabel here (previous here (inverse q.label))
       lz = t.label y (t.label x lx)

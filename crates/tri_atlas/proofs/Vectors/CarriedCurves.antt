@@ -13,9 +13,8 @@ use Rattle.std.proofs.lemmas.List.Elements.{All-nil, All-cons, All-head, All-tai
 use Rattle.std.proofs.lemmas.List.Sums.{sum_by-cons, sum_by-append}
 use Rattle.ideal_tri.specs.Labels.{edge_of}
 use Rattle.ideal_tri.specs.Words.{inverse_word, reduce, cyclic_reduce, IsRotation}
-use Rattle.ideal_tri.specs.WordLaws.{ReductionLaws, CyclicLaws}
 use Rattle.ideal_tri.specs.Strands.{State, IsStrand, same_state, strand_step, Runs, IsClosedRun, word_of}
-use Rattle.tri_atlas.proofs.Letters.{int_eq-other, inverse_word-inverse_word, reduce-right}
+use Rattle.tri_atlas.proofs.LowerLaws.{LowerLaws}
 use Rattle.tri_atlas.proofs.Vectors.Exits.{is_on, past, crossed}
 use Rattle.tri_atlas.proofs.Vectors.Carried.{IsPassing, image_with, on_only, carried_state, carried, carried_state-on}
 use Rattle.tri_atlas.proofs.Vectors.Carried.{carried_state-off}
@@ -23,21 +22,22 @@ use Rattle.tri_atlas.proofs.Vectors.CarriedRuns.{Carries, carries}
 
 -- ---- how often a carried run passes a state off the edge
 
-same_state-apart : (n : ℕ) (q p : State) → is_on n q ≡ false → is_on n p ≡ true → same_state q p ≡ false
-same_state-apart n q p off on =
-    and_left (int_eq q.label p.label) (eqb q.place p.place) (int_eq-other q.label p.label (λ e. apart (ap edge_of e)))
+same_state-apart : LowerLaws → (n : ℕ) (q p : State) → is_on n q ≡ false → is_on n p ≡ true → same_state q p ≡ false
+same_state-apart laws n q p off on =
+    and_left (int_eq q.label p.label) (eqb q.place p.place)
+    (laws.labels.test_other q.label p.label (λ e. apart (ap edge_of e)))
   where
     apart : edge_of q.label ≢ edge_of p.label
     apart e = let yes : is_on n q ≡ true = eq-eqb (edge_of q.label) n (e ∙ eqb-true (edge_of p.label) n on) in cc
 
-module _ (there : List (List ℤ)) (v : List ℕ) (n : ℕ) (q : State) (off : is_on n q ≡ false) where
+module _ (laws : LowerLaws) (there : List (List ℤ)) (v : List ℕ) (n : ℕ) (q : State) (off : is_on n q ≡ false) where
   count-on_only : (p : State) → count_by (same_state q) (on_only n p) ≡ 0
   count-on_only p =
       elim (cases_Bool (is_on n p)) [
         | inl on ↦
             (ap (λ (b : Bool). count_by (same_state q) (cond b (p ∷ []) [])) on
             ∙ sum_by-cons (λ r. cond (same_state q r) 1 0) p []
-            ∙ ap (λ (b : Bool). cond b 1 0 + count_by (same_state q) []) (same_state-apart n q p off on))
+            ∙ ap (λ (b : Bool). cond b 1 0 + count_by (same_state q) []) (same_state-apart laws n q p off on))
         | inr e ↦ ap (λ (b : Bool). count_by (same_state q) (cond b (p ∷ []) [])) e
       ]
 
@@ -46,7 +46,7 @@ module _ (there : List (List ℤ)) (v : List ℕ) (n : ℕ) (q : State) (off : i
       elim (cases_Bool (is_on n p)) [
         | inl on ↦
             (ap (count_by (same_state q)) (carried_state-on there v n p on)
-            ∙ sym (ap (λ (b : Bool). cond b 1 0) (same_state-apart n q p off on)))
+            ∙ sym (ap (λ (b : Bool). cond b 1 0) (same_state-apart laws n q p off on)))
         | inr e ↦
             (ap (count_by (same_state q)) (carried_state-off there v n p e)
             ∙ omega (
@@ -70,7 +70,7 @@ module _ (there : List (List ℤ)) (v : List ℕ) (n : ℕ) (q : State) (off : i
 
 -- ---- closed runs
 
-module _ (laws : ReductionLaws) (cyclic : CyclicLaws) (here there : List (List ℤ)) (w v : List ℕ) (n : ℕ)
+module _ (laws : LowerLaws) (here there : List (List ℤ)) (w v : List ℕ) (n : ℕ)
     (pre : ℤ → List ℤ)
     (h : IsPassing here there w v n pre) where
   abbrev pub carry : List State → List State
@@ -150,12 +150,12 @@ module _ (laws : ReductionLaws) (cyclic : CyclicLaws) (here there : List (List �
   carried_word run c =
       let goes : Carries laws here there w v n pre h c.start run c.start =
       carries laws here there w v n pre h c.start c.start run (first_valid run c) c.closes in
-      cyclic.conjugate end image carried_letters
-      (reduce-right laws (inverse_word end) (image ++ end) (end ++ carried_letters)
+      laws.words.cyclic.conjugate end image carried_letters
+      (laws.words.reduction.right (inverse_word end) (image ++ end) (end ++ carried_letters)
       (goes.words ∙ ap reduce
       (sym (append_assoc (crossed n c.start) (pre (past here w n c.start).label) carried_letters)))
-      ∙ ap (λ (u : List ℤ). reduce (inverse_word end ++ (u ++ carried_letters))) (sym (inverse_word-inverse_word end))
-      ∙ laws.cancel [] (inverse_word end) carried_letters)
+      ∙ ap (λ (u : List ℤ). reduce (inverse_word end ++ (u ++ carried_letters))) (sym (laws.words.inverses.twice end))
+      ∙ laws.words.reduction.cancel [] (inverse_word end) carried_letters)
     where
       end : List ℤ
       end = crossed n c.start ++ pre (past here w n c.start).label

@@ -13,7 +13,6 @@ use Rattle.ideal_tri.specs.Vectors.{IsMulticurve}
 use Rattle.ideal_tri.specs.Strands.{State, state_at, IsStrand, same_state, opposite, strand_step, IsClosedRun, uses}
 use Rattle.ideal_tri.specs.Strands.{IsDrawing, word_of, words_of}
 use Rattle.tri_atlas.specs.Maps.{images_under}
-use Rattle.tri_atlas.proofs.Letters.{edge_of-inverse}
 use Rattle.tri_atlas.proofs.Vectors.Exits.{is_on, not_on}
 use Rattle.tri_atlas.proofs.Vectors.Given.{Given}
 use Rattle.tri_atlas.proofs.Vectors.Carried.{IsPassing, image_with, carried_state, carried}
@@ -39,21 +38,21 @@ module _ (g : Given) (here there : List (List ℤ)) (w v : List ℕ) (n : ℕ) (
       ∙ ap (λ (o : State). count_by (same_state q) (carried there v n (flat_map (λ run. run) runs)) + count_by
       (same_state o) (carried there v n (flat_map (λ run. run) runs))) opposite_same
       ∙ ap (λ (i : ℕ). i + count_by (same_state (opposite w q)) (carried there v n (flat_map (λ run. run) runs)))
-      (count-carried there v n q off (flat_map (λ run. run) runs))
+      (count-carried g.lower there v n q off (flat_map (λ run. run) runs))
       ∙ ap (λ (i : ℕ). count_by (same_state q) (flat_map (λ run. run) runs) + i)
-      (count-carried there v n (opposite w q) opposite_off (flat_map (λ run. run) runs))
+      (count-carried g.lower there v n (opposite w q) opposite_off (flat_map (λ run. run) runs))
     where
       opposite_same : opposite v q ≡ opposite w q
       opposite_same = ap (λ (i : ℕ). state_at (inverse q.label) (i - 1 - q.place)) (h.numbers q.label (not_on n q off))
 
       opposite_off : is_on n (opposite w q) ≡ false
-      opposite_off = ap (λ (i : ℕ). nat_eq i n) (edge_of-inverse q.label) ∙ off
+      opposite_off = ap (λ (i : ℕ). nat_eq i n) (g.lower.labels.edge q.label) ∙ off
 
   closed : All (IsClosedRun there v) (map (carried there v n) runs)
   closed =
       All-map (IsClosedRun there v) (carried there v n) runs
       (All-weaker (IsClosedRun here w) (λ (run : List State). IsClosedRun there v (carried there v n run))
-      (carried_closed g.reduction g.cyclic here there w v n pre h) runs d.closed)
+      (carried_closed g.lower here there w v n pre h) runs d.closed)
 
   used_off : (q : State) → is_on n q ≡ false → IsStrand there v q
       → uses v q (flat_map (λ run. run) (map (carried there v n) runs)) ≡ 1
@@ -79,9 +78,9 @@ module _ (g : Given) (here there : List (List ℤ)) (w v : List ℕ) (n : ℕ) (
   rotated [] c r = tt
   rotated (run ∷ us) c r = (
     inl (subst (IsRotation (cyclic_reduce (flat_map (image_with pre) (word_of run))))
-        (g.cyclic.fixed (word_of (carried there v n run))
+        (g.lower.words.cyclic.fixed (word_of (carried there v n run))
         (All-head IsCyclicallyReduced (word_of (carried there v n run)) (words_of (map (carried there v n) us)) r))
-        (carried_word g.reduction g.cyclic here there w v n pre h run (All-head (IsClosedRun here w) run us c))),
+        (carried_word g.lower here there w v n pre h run (All-head (IsClosedRun here w) run us c))),
     rotated us (All-tail (IsClosedRun here w) run us c)
         (All-tail IsCyclicallyReduced (word_of (carried there v n run)) (words_of (map (carried there v n) us)) r),
   )

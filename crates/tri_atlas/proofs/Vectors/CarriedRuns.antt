@@ -12,15 +12,14 @@ use Rattle.std.proofs.lemmas.Bool.{cases_Bool, eqb-true}
 use Rattle.std.proofs.lemmas.List.{append-nil, map-append}
 use Rattle.ideal_tri.specs.Labels.{inverse, edge_of}
 use Rattle.ideal_tri.specs.Words.{inverse_word, reduce}
-use Rattle.ideal_tri.specs.WordLaws.{ReductionLaws}
 use Rattle.ideal_tri.specs.Strands.{State, IsStrand, strand_step, Runs, word_of}
-use Rattle.tri_atlas.proofs.Letters.{edge_of-inverse, reduce-reduce, reduce-left, reduce-right}
+use Rattle.tri_atlas.proofs.LowerLaws.{LowerLaws}
 use Rattle.tri_atlas.proofs.Vectors.Exits.{is_on, past, crossed, past-on, past-off, crossed-on, crossed-off}
 use Rattle.tri_atlas.proofs.Vectors.Passes.{Passes}
 use Rattle.tri_atlas.proofs.Vectors.Carried.{IsPassing, image_with, on_only, carried_state, carried}
 use Rattle.tri_atlas.proofs.Vectors.Carried.{carried_state-on, carried_state-off, word_of-on_only, runs_on_only}
 
-module _ (laws : ReductionLaws) (here there : List (List ℤ)) (w v : List ℕ) (n : ℕ) (pre : ℤ → List ℤ)
+module _ (laws : LowerLaws) (here there : List (List ℤ)) (w v : List ℕ) (n : ℕ) (pre : ℤ → List ℤ)
     (h : IsPassing here there w v n pre) where
   -- what is carried of a run
   abbrev pub carry : List State → List State
@@ -47,7 +46,7 @@ module _ (laws : ReductionLaws) (here there : List (List ℤ)) (w v : List ℕ) 
   plain_image : (x : ℤ) → edge_of x ≡ n → image_with pre x ≡ x ∷ []
   plain_image x on =
       ap (λ (u : List ℤ). u ++ (x ∷ inverse_word (pre (inverse x)))) (h.plain x on)
-      ∙ ap (λ (u : List ℤ). x ∷ inverse_word u) (h.plain (inverse x) (edge_of-inverse x ∙ on))
+      ∙ ap (λ (u : List ℤ). x ∷ inverse_word u) (h.plain (inverse x) (laws.labels.edge x ∙ on))
 
   -- from a state on the edge
   carries_on : (q r : State) (run : List State) → IsStrand here w q → is_on n q ≡ true
@@ -58,7 +57,7 @@ module _ (laws : ReductionLaws) (here there : List (List ℤ)) (w v : List ℕ) 
     words =
         ap (λ (u : List ℤ). reduce ((u ++ flat_map (image_with pre) (word_of run)) ++ end))
         (plain_image q.label (eqb-true (edge_of q.label) n on))
-        ∙ reduce-right laws (q.label ∷ []) (flat_map (image_with pre) (word_of run) ++ end)
+        ∙ laws.words.reduction.right (q.label ∷ []) (flat_map (image_with pre) (word_of run) ++ end)
         (crossed n next ++ (pre (past here w n next).label ++ word_of (carry run))) c.words
         ∙ ap (λ (u : List ℤ). reduce
         ((q.label ∷ []) ++ (u ++ (pre (past here w n next).label ++ word_of (carry run))))) (crossed-off n next off)
@@ -88,13 +87,14 @@ module _ (laws : ReductionLaws) (here there : List (List ℤ)) (w v : List ℕ) 
       → reduce (((P ++ (y ∷ I)) ++ F) ++ R) ≡ reduce (P ++ (y ∷ (e' ++ W)))
   around P I F R e z W e' y before between =
       ap reduce (append_assoc (P ++ (y ∷ I)) F R)
-      ∙ reduce-right laws (P ++ (y ∷ I)) (F ++ R) (e ++ (z ++ W)) before
+      ∙ laws.words.reduction.right (P ++ (y ∷ I)) (F ++ R) (e ++ (z ++ W)) before
       ∙ ap reduce (append_assoc P (y ∷ I) (e ++ (z ++ W)))
       ∙ ap (λ (u : List ℤ). reduce (P ++ (y ∷ u)))
       (ap (λ (u : List ℤ). I ++ u) (sym (append_assoc e z W)) ∙ sym (append_assoc I (e ++ z) W))
-      ∙ reduce-right laws P (y ∷ ((I ++ (e ++ z)) ++ W)) (y ∷ (e' ++ W))
-      (reduce-right laws (y ∷ []) ((I ++ (e ++ z)) ++ W) (e' ++ W)
-      (reduce-left laws (I ++ (e ++ z)) e' W (sym (reduce-reduce laws (I ++ (e ++ z))) ∙ ap reduce between)))
+      ∙ laws.words.reduction.right P (y ∷ ((I ++ (e ++ z)) ++ W)) (y ∷ (e' ++ W))
+      (laws.words.reduction.right (y ∷ []) ((I ++ (e ++ z)) ++ W) (e' ++ W)
+      (laws.words.reduction.left (I ++ (e ++ z)) e' W
+      (sym (laws.words.reduction.twice (I ++ (e ++ z))) ∙ ap reduce between)))
 
   -- from a state off the edge
   carries_off : (q r : State) (run : List State) → IsStrand here w q → is_on n q ≡ false

@@ -9,6 +9,7 @@ use Rattle.std.proofs.Common.{◌∙◌, ap, subst, arith, nat_eq, eq-eqb, ne_eq
 use Rattle.ideal_tri.specs.Labels.{inverse, edge_of}
 use Rattle.ideal_tri.specs.Vectors.{weight, corner_count}
 use Rattle.ideal_tri.specs.Strands.{State, strand_step}
+use Rattle.tri_atlas.proofs.LowerLaws.{LowerLaws}
 use Rattle.tri_atlas.proofs.Vectors.Turns.{HasCornerSums, Turns, on, back, turns_at, same_number}
 use Rattle.tri_atlas.proofs.Vectors.Quadrilaterals.{Quadrilateral, turned, before_e, before_a, before_b, sums_of}
 
@@ -69,7 +70,7 @@ pub data SecondExit (k l A B E D i : ℕ) (a c d e : ℤ) (X : State) (letters :
   across_d : k ≤ i → (j : ℕ) → j + B ≡ i + E → j < l → X.label ≡ d → j + X.place + 1 ≡ D → letters ≡ e ∷ []
       → SecondExit k l A B E D i a c d e X letters
 
-module _ (triples : List (List ℤ)) (w : List ℕ) (e f a b c d : ℤ) (h : HasCornerSums triples w)
+module _ (laws : LowerLaws) (triples : List (List ℤ)) (w : List ℕ) (e f a b c d : ℤ) (h : HasCornerSums triples w)
     (s : Quadrilateral triples e f a b c d) (q : State) (i : ℕ) where
   abbrev k : ℤ → ℕ
   k x = corner_count triples w x
@@ -99,12 +100,12 @@ module _ (triples : List (List ℤ)) (w : List ℕ) (e f a b c d : ℤ) (h : Has
       let here : is_on (edge_of e) r ≡ true = on_edge (edge_of e) r e label refl in
       subst (λ (u : State). P u letters) (sym (past-on triples w (edge_of e) r here))
       (subst (P (strand_step triples w r)) (sym (crossed-on (edge_of e) r here ∙ ap (λ (x : ℤ). x ∷ []) label))
-      (p (turns_at triples w r j (weight w e) f c d h s.label_d (ap inverse label ∙ sym s.f_is) s.after_f
+      (p (turns_at laws triples w r j (weight w e) f c d h s.label_d (ap inverse label ∙ sym s.f_is) s.after_f
       (before_e triples f e c d a b (turned triples e f a b c d s)) (ap (weight w) label) there)))
 
   -- the weight of a side is that of its label beyond the edge
   beyond : (x : ℤ) → inverse q.label ≡ x → weight w q.label ≡ weight w x
-  beyond x at = sym (same_number w q.label (inverse q.label) refl) ∙ ap (weight w) at
+  beyond x at = sym (same_number laws w q.label (inverse q.label) refl) ∙ ap (weight w) at
 
   -- the exits from place i of a, and of b
   abbrev First : State → List ℤ → Type 0
@@ -128,7 +129,7 @@ module _ (triples : List (List ℤ)) (w : List ℕ) (e f a b c d : ℤ) (h : Has
 
   pub exits_first : inverse q.label ≡ a → q.place + i + 1 ≡ weight w a → First X letters
   exits_first at there =
-      elim (turns_at triples w q i (weight w a) a b e h s.label_e at s.after_a (before_a triples e f a b c d s)
+      elim (turns_at laws triples w q i (weight w a) a b e h s.label_e at s.after_a (before_a triples e f a b c d s)
       (beyond a at) there) [
         | on above label place ↦ at_once First b label s.off_b (FirstExit.near above label place refl)
         | back below label place ↦ over_edge First i label (omega arith) (first_through below)
@@ -136,7 +137,7 @@ module _ (triples : List (List ℤ)) (w : List ℕ) (e f a b c d : ℤ) (h : Has
 
   pub exits_second : inverse q.label ≡ b → q.place + i + 1 ≡ weight w b → Second X letters
   exits_second at there =
-      elim (turns_at triples w q i (weight w b) b e a h s.label_a at s.after_b (before_b triples e f a b c d s)
+      elim (turns_at laws triples w q i (weight w b) b e a h s.label_a at s.after_b (before_b triples e f a b c d s)
       (beyond b at) there) [
         | back below label place ↦ at_once Second a label s.off_a (SecondExit.near below label place refl)
         | on above label place ↦

@@ -27,11 +27,13 @@ use Rattle.tri_atlas.proofs.Vectors.Passing.{flip_passing, passing_back}
 
 -- a vector whose curves are the images of those of w counts the crossings of these images
 pub image_of_curves : Given → (before target : List (List ℤ)) (w v : List ℕ) (f : ℤ → List ℤ) → IsTriangulation target
-    → IsMulticurve target v → edge_count target ≡ edge_count before
+    → IsMulticurve before w → IsMulticurve target v → edge_count target ≡ edge_count before
     → ((runs after : List (List State)) → IsDrawing before w runs → IsDrawing target v after
     → IsSameCurves (images_under f (words_of runs)) (words_of after))
     → IsImageVector before w f v
-image_of_curves g before target w v f t m edges curves = record {
+image_of_curves g before target w v f t given m edges curves = record {
+  multicurve = given;
+  one_per_edge = m.one_per_edge ∙ edges;
   counts = λ runs d e below.
       let after : List (List State) = draw target v in
       let drawn : IsDrawing target v after = (g.drawings target t).exists v m in
@@ -47,7 +49,7 @@ module _ (g : Given) (before target : List (List ℤ)) (e a b c d : ℤ) (p : Is
   v = set w (edge_of e) (flipped_number w e a b c d)
 
   edges : edge_count target ≡ edge_count before
-  edges = flip_edges before target e a b c d h
+  edges = flip_edges g.lower before target e a b c d h
 
   pub flip_laws : IsMulticurve before w → MovedLaws before target (flip e a b c d) w
   flip_laws m =
@@ -59,12 +61,12 @@ module _ (g : Given) (before target : List (List ℤ)) (e a b c d : ℤ) (p : Is
       pair_of g before target e a b c d p t h w v m k new.numbers new.sum in
       let curves =
       passed_words g before target w v (edge_of e) (step_before e b d)
-      (flip_passing before target w v e (inverse e) a b c d (g.strands before p)
+      (flip_passing g.lower before target w v e (inverse e) a b c d (g.strands before p)
       (g.strands target t) m k pair) p t m k edges in
       record {
         multicurve = k;
         curves = λ runs after drawn other. curves runs drawn after other;
-        image = image_of_curves g before target w v (image_of_letter (flip e a b c d)) t k edges
+        image = image_of_curves g before target w v (image_of_letter (flip e a b c d)) t m k edges
             (λ runs after drawn other. curves runs drawn after other);
         back = flip_back w v e a b c d refl new (same_sum g before target e a b c d p t h w v new.numbers) within;
       }
@@ -82,13 +84,13 @@ module _ (g : Given) (before target : List (List ℤ)) (e a b c d : ℤ) (p : Is
       pair_of g before target e a b c d p t h v w k m numbers (omega (arith, new.sum, same)) in
       let curves =
       passed_words g target before w v (edge_of e) (step_before (inverse e) b d)
-      (passing_back g.reduction before target v w (edge_of e) (step_before e b d) (step_before (inverse e) b d)
-      (flip_passing before target v w e (inverse e) a b c d (g.strands before p) (g.strands target t) k m pair)
-      (step_before-inverse e b d)) t p m k (sym edges) in
+      (passing_back g.lower before target v w (edge_of e) (step_before e b d) (step_before (inverse e) b d)
+      (flip_passing g.lower before target v w e (inverse e) a b c d (g.strands before p) (g.strands target t) k m pair)
+      (step_before-inverse g.lower e b d)) t p m k (sym edges) in
       record {
         multicurve = k;
         curves = λ runs after drawn other. curves runs drawn after other;
-        image = image_of_curves g target before w v (image_of_letter (unflip e a b c d)) p k (sym edges)
+        image = image_of_curves g target before w v (image_of_letter (unflip e a b c d)) p m k (sym edges)
             (λ runs after drawn other. curves runs drawn after other);
         back = flip_back w v e a b c d refl new (sym same) within;
       }

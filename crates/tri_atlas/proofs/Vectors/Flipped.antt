@@ -14,7 +14,6 @@ use Rattle.ideal_tri.specs.Triangulations.{IsTriangulation, IsLabel, edge_count,
 use Rattle.ideal_tri.specs.Vectors.{IsMulticurve, weight, corner_count}
 use Rattle.tri_atlas.specs.Moves.{IsFlip}
 use Rattle.tri_atlas.specs.MovedVectors.{greater_sum, flipped_number}
-use Rattle.tri_atlas.proofs.Letters.{edge_of-inverse}
 use Rattle.tri_atlas.proofs.Flips.{flip_edges}
 use Rattle.tri_atlas.proofs.Vectors.Given.{Given, sums_of_multicurve, multicurve_of_sums}
 use Rattle.tri_atlas.proofs.Vectors.Turns.{HasCornerSums, same_number}
@@ -71,26 +70,26 @@ flip_back w v e a b c d is h same below =
 module _ (g : Given) (before target : List (List ℤ)) (e a b c d : ℤ) (p : IsTriangulation before)
     (t : IsTriangulation target) (h : IsFlip before target e a b c d) where
   here : Quadrilateral before e (inverse e) a b c d
-  here = sides_before before target e a b c d (g.surface.triangles before p) h
+  here = sides_before g.lower before target e a b c d (g.lower.surfaces.triangles before p) h
 
   there : Quadrilateral target e (inverse e) d a b c
   there =
-      sides_after before target e a b c d (g.surface.triangles before p) h
-      (g.flips.flips before e p h.label h.flippable)
+      sides_after g.lower before target e a b c d (g.lower.surfaces.triangles before p) h
+      (g.lower.flips.flips before e p h.label h.flippable)
 
   others : (x : ℤ) → IsLabel before x → IsApartFrom e (inverse e) a b c d x → next target x ≡ next before x
   others =
-      others_stay before target e a b c d (g.surface.triangles before p) h
-      (g.flips.flips before e p h.label h.flippable)
+      others_stay g.lower before target e a b c d (g.lower.surfaces.triangles before p) h
+      (g.lower.flips.flips before e p h.label h.flippable)
 
   edges : edge_count target ≡ edge_count before
-  edges = flip_edges before target e a b c d h
+  edges = flip_edges g.lower before target e a b c d h
 
   off_c : edge_of c ≢ edge_of e
-  off_c k = here.off_c (k ∙ sym (edge_of-inverse e))
+  off_c k = here.off_c (k ∙ sym (g.lower.labels.edge e))
 
   off_d : edge_of d ≢ edge_of e
-  off_d k = here.off_d (k ∙ sym (edge_of-inverse e))
+  off_d k = here.off_d (k ∙ sym (g.lower.labels.edge e))
 
   -- the greater sum is the same, before and after
   pub same_sum : (w v : List ℕ) → ((x : ℤ) → edge_of x ≢ edge_of e → weight v x ≡ weight w x)
@@ -106,7 +105,7 @@ module _ (g : Given) (before target : List (List ℤ)) (e a b c d : ℤ) (p : Is
     corners_there = sums_of_multicurve g target v t k;
     sides_here = here;
     sides_there = there;
-    triangles = g.surface.triangles before p;
+    triangles = g.lower.surfaces.triangles before p;
     edges = edges;
     others = others;
     numbers = numbers;
@@ -123,7 +122,7 @@ module _ (g : Given) (before target : List (List ℤ)) (e a b c d : ℤ) (p : Is
         (corner_count before w a) (corner_count before w b) (corner_count before w (inverse e))
         (corner_count before w c)
         (corner_count before w d)
-    sums = summed before w e (inverse e) a b c d corners here
+    sums = summed g.lower before w e (inverse e) a b c d corners here
 
     pub enough : weight w e ≤ greater_sum w a b c d
     enough = edge_below _ (weight w e) _ _ _ _ _ _ _ _ _ _ sums
@@ -131,7 +130,8 @@ module _ (g : Given) (before target : List (List ℤ)) (e a b c d : ℤ) (p : Is
     pub flip_multicurve : (v : List ℕ) → IsFlippedVector w v e a b c d → IsMulticurve target v
     flip_multicurve v new =
         multicurve_of_sums g target v t (new.long ∙ m.one_per_edge ∙ sym edges)
-        (sums_moved before target w v e (inverse e) a b c d d a b c (g.surface.triangles before p) here there
+        (sums_moved g.lower before target w v e (inverse e) a b c d d a b c
+        (g.lower.surfaces.triangles before p) here there
         (λ x q. record {
           from_e = q.from_e;
           from_a = q.from_b;
@@ -142,7 +142,7 @@ module _ (g : Given) (before target : List (List ℤ)) (e a b c d : ℤ) (p : Is
         }) edges others new.numbers corners
         (IsHalved-same _ _ _ _ _ _ refl (sym (new.numbers d off_d)) (sym (new.numbers a here.off_a))
         (first_halved _ (weight v e) _ _ _ _ _ _ _ _ _ _ sums new.sum))
-        (IsHalved-same _ _ _ _ _ _ (sym (same_number v e (inverse e) refl)) (sym (new.numbers b here.off_b))
+        (IsHalved-same _ _ _ _ _ _ (sym (same_number g.lower v e (inverse e) refl)) (sym (new.numbers b here.off_b))
         (sym (new.numbers c off_c))
         (second_halved _ (weight v e) _ _ _ _ _ _ _ _ _ _ sums new.sum)))
 
@@ -156,7 +156,7 @@ module _ (g : Given) (before target : List (List ℤ)) (e a b c d : ℤ) (p : Is
         (corner_count target v d) (corner_count target v a) (corner_count target v (inverse e))
         (corner_count target v b)
         (corner_count target v c)
-    sums_there = summed target v e (inverse e) d a b c corners_there there
+    sums_there = summed g.lower target v e (inverse e) d a b c corners_there there
 
     pub enough_back : weight v e ≤ greater_sum v a b c d
     enough_back = let below = edge_below _ (weight v e) _ _ _ _ _ _ _ _ _ _ sums_there in omega arith
@@ -164,7 +164,8 @@ module _ (g : Given) (before target : List (List ℤ)) (e a b c d : ℤ) (p : Is
     pub unflip_multicurve : (w : List ℕ) → IsFlippedVector v w e a b c d → IsMulticurve before w
     unflip_multicurve w new =
         multicurve_of_sums g before w p (new.long ∙ m.one_per_edge ∙ edges)
-        (sums_moved target before v w e (inverse e) d a b c a b c d (g.surface.triangles target t) there here
+        (sums_moved g.lower target before v w e (inverse e) d a b c a b c d
+        (g.lower.surfaces.triangles target t) there here
         (λ x q. record {
           from_e = q.from_e;
           from_a = q.from_d;
@@ -184,7 +185,7 @@ module _ (g : Given) (before target : List (List ℤ)) (e a b c d : ℤ) (p : Is
         new.numbers corners_there
         (IsHalved-same _ _ _ _ _ _ refl (sym (new.numbers a here.off_a)) (sym (new.numbers b here.off_b))
         (second_halved _ (weight w e) _ _ _ _ _ _ _ _ _ _ sums_there turned_sum))
-        (IsHalved-same _ _ _ _ _ _ (sym (same_number w e (inverse e) refl)) (sym (new.numbers c off_c))
+        (IsHalved-same _ _ _ _ _ _ (sym (same_number g.lower w e (inverse e) refl)) (sym (new.numbers c off_c))
         (sym (new.numbers d off_d))
         (first_halved _ (weight w e) _ _ _ _ _ _ _ _ _ _ sums_there turned_sum)))
       where

@@ -1,24 +1,16 @@
 -- What is used of the laws of words, triangulations, vectors and drawings.
 use Rattle.std.proofs.Common.{ℕ, ℤ, List, ◌≡◌, length}
-use Rattle.ideal_tri.specs.WordLaws.{ReductionLaws, CyclicLaws, CurveLaws}
-use Rattle.ideal_tri.specs.SurfaceLaws.{SurfaceLaws}
-use Rattle.ideal_tri.specs.TripleLaws.{TripleLaws}
-use Rattle.ideal_tri.specs.FlipLaws.{QuadrilateralLaws}
 use Rattle.ideal_tri.specs.CornerLaws.{CornerLaws}
 use Rattle.ideal_tri.specs.DrawingLaws.{DrawingLaws, SameCurvesLaws}
 use Rattle.ideal_tri.specs.StrandLaws.{StrandLaws}
 use Rattle.ideal_tri.specs.Triangulations.{IsTriangulation, edge_count}
 use Rattle.ideal_tri.specs.Vectors.{IsMulticurve, corner_count}
+use Rattle.tri_atlas.proofs.LowerLaws.{LowerLaws}
 use Rattle.tri_atlas.proofs.Vectors.Turns.{HasCornerSums}
 
 pub record Given : Type 0 where
-  pub reduction : ReductionLaws
-  pub cyclic : CyclicLaws
-  pub curves : CurveLaws
+  pub lower : LowerLaws
   pub same : SameCurvesLaws
-  pub surface : SurfaceLaws
-  pub triples : TripleLaws
-  pub flips : QuadrilateralLaws
   pub corners : (triples : List (List ℤ)) → IsTriangulation triples → CornerLaws triples
   pub drawings : (triples : List (List ℤ)) → IsTriangulation triples → DrawingLaws triples
   pub strands : (triples : List (List ℤ)) → IsTriangulation triples → StrandLaws triples

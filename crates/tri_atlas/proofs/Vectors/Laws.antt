@@ -38,7 +38,7 @@ module _ (g : Given) (triples : List (List ℤ)) (moves : List Move) (w : List �
 flipped_triangulation : Given → (before target : List (List ℤ)) (e a b c d : ℤ) → IsTriangulation before
     → IsFlip before target e a b c d → IsTriangulation target
 flipped_triangulation g before target e a b c d p h =
-    subst IsTriangulation (sym h.result) (g.flips.flips before e p h.label h.flippable).triangulation
+    subst IsTriangulation (sym h.result) (g.lower.flips.flips before e p h.label h.flippable).triangulation
 
 number_laws : Given → NumberLaws
 number_laws g = record {
@@ -48,7 +48,7 @@ number_laws g = record {
   enough_back =
       λ before target e a b c d w p h m. enough_back g before target e a b c d p
       (flipped_triangulation g before target e a b c d p h) h w m;
-  moved = λ before target images w x h l. weight-image before target images w h x l;
+  moved = λ before target images w x h l. weight-image g.lower before target images w h x l;
 }
 
 pub vector_laws : Given → VectorLaws

@@ -9,6 +9,7 @@ use Rattle.ideal_tri.specs.Labels.{edge_of}
 use Rattle.ideal_tri.specs.SurfaceLaws.{TriangleLaws}
 use Rattle.ideal_tri.specs.Triangulations.{IsLabel, edge_count, next, previous}
 use Rattle.ideal_tri.specs.Vectors.{weight, corner_count}
+use Rattle.tri_atlas.proofs.LowerLaws.{LowerLaws}
 use Rattle.tri_atlas.proofs.Vectors.Turns.{HasCornerSums, same_number}
 use Rattle.tri_atlas.proofs.Vectors.Quadrilaterals.{Quadrilateral, turned, Sums, sums_of, IsApartFrom, next_apart}
 use Rattle.tri_atlas.proofs.Vectors.Quadrilaterals.{apart_off}
@@ -46,19 +47,19 @@ pub IsHalved-same : (x y z x' y' z' : ℕ) → x ≡ x' → y ≡ y' → z ≡ z
 IsHalved-same x y z x' y' z' is_x is_y is_z h =
     subst (IsHalved x' y') is_z (subst (λ (n : ℕ). IsHalved x' n z) is_y (subst (λ (n : ℕ). IsHalved n y z) is_x h))
 
-pub summed : (triples : List (List ℤ)) (w : List ℕ) (e f a b c d : ℤ) → HasCornerSums triples w
+pub summed : LowerLaws → (triples : List (List ℤ)) (w : List ℕ) (e f a b c d : ℤ) → HasCornerSums triples w
     → Quadrilateral triples e f a b c d
     → IsSummed (weight w e) (weight w a) (weight w b) (weight w c) (weight w d) (corner_count triples w e)
     (corner_count triples w a) (corner_count triples w b) (corner_count triples w f) (corner_count triples w c)
     (corner_count triples w d)
-summed triples w e f a b c d h s =
+summed laws triples w e f a b c d h s =
     let first : Sums triples w e a b = sums_of triples e f a b c d s w h in
     let second : Sums triples w f c d = sums_of triples f e c d a b (turned triples e f a b c d s) w h in
     record {
       e_first = first.side_e;
       a_first = first.side_a;
       b_first = first.side_b;
-      e_second = sym (same_number w e f s.f_is) ∙ second.side_e;
+      e_second = sym (same_number laws w e f s.f_is) ∙ second.side_e;
       c_second = second.side_a;
       d_second = second.side_b;
     }
@@ -89,39 +90,41 @@ module _ (triples : List (List ℤ)) (v : List ℕ) where
 -- ---- all triangles
 
 -- `here` has such a vector, and `there` has the same triangles and numbers apart from two triangles that are halved
-pub sums_moved : (here there : List (List ℤ)) (w v : List ℕ) (e f a b c d a' b' c' d' : ℤ) → TriangleLaws here
-    → Quadrilateral here e f a b c d → Quadrilateral there e f a' b' c' d'
+pub sums_moved : LowerLaws → (here there : List (List ℤ)) (w v : List ℕ) (e f a b c d a' b' c' d' : ℤ)
+    → TriangleLaws here → Quadrilateral here e f a b c d → Quadrilateral there e f a' b' c' d'
     → ((x : ℤ) → IsApartFrom e f a' b' c' d' x → IsApartFrom e f a b c d x) → edge_count there ≡ edge_count here
     → ((x : ℤ) → IsLabel here x → IsApartFrom e f a b c d x → next there x ≡ next here x)
     → ((x : ℤ) → edge_of x ≢ edge_of e → weight v x ≡ weight w x) → HasCornerSums here w
     → IsHalved (weight v e) (weight v a') (weight v b') → IsHalved (weight v f) (weight v c') (weight v d')
     → HasCornerSums there v
-sums_moved here there w v e f a b c d a' b' c' d' laws s t turn edges others numbers h first second =
-    record { sums = λ x l. go x l (place_of e f a' b' c' d' x) }
+sums_moved laws here there w v e f a b c d a' b' c' d' triangles s t turn edges others numbers h first second =
+    record { sums = λ x l. go x l (place_of laws e f a' b' c' d' x) }
   where
     at : (x y : ℤ) → y ≡ x → IsSum there v x → IsSum there v y
     at x y k = subst (IsSum there v) (sym k)
 
     apart_sum : (x : ℤ) → IsLabel here x → IsApartFrom e f a b c d x → IsSum there v x
     apart_sum x l q =
-        numbers x (apart_off here e f a b c d laws s x q)
+        numbers x (apart_off laws here e f a b c d triangles s x q)
         ∙ h.sums x l
         ∙ sym (ap (λ (n : ℕ). n + corner_count there v (previous there x)) (corner x l q)
         ∙ ap (λ (u : ℤ). corner_count here w x + corner_count there v u)
-        (apart_previous here there w v e f a b c d laws s others numbers x l q)
+        (apart_previous laws here there w v e f a b c d triangles s others numbers x l q)
         ∙ ap (λ (n : ℕ). corner_count here w x + n) (corner (previous here x) lz z_away))
       where
         corner : (y : ℤ) → IsLabel here y → IsApartFrom e f a b c d y → corner_count there v y ≡ corner_count here w y
-        corner = apart_corner here there w v e f a b c d laws s others numbers
+        corner = apart_corner laws here there w v e f a b c d triangles s others numbers
 
         ly : IsLabel here (next here x)
-        ly = laws.label x l
+        ly = triangles.label x l
 
         lz : IsLabel here (previous here x)
-        lz = laws.label (next here x) ly
+        lz = triangles.label (next here x) ly
 
         z_away : IsApartFrom e f a b c d (previous here x)
-        z_away = next_apart here e f a b c d laws s (next here x) ly (next_apart here e f a b c d laws s x l q)
+        z_away =
+            next_apart laws here e f a b c d triangles s (next here x) ly
+            (next_apart laws here e f a b c d triangles s x l q)
 
     go : (x : ℤ) → IsLabel there x → Place e f a' b' c' d' x → IsSum there v x
     go x l (at_e k) = at e x k (is_sum there v e a' b' t.after_e t.after_a t.after_b first.first)

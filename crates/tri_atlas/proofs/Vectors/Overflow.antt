@@ -34,7 +34,7 @@ module _ (g : Given) (before target : List (List ℤ)) (moves : List Move) (w : 
   long k =
       let b : Beginning before moves k = beginning before target moves k h in
       (multicurve_along g before b.middle (take k moves) w p b.path m).one_per_edge
-      ∙ path_edges before b.middle (take k moves) b.path
+      ∙ path_edges g.lower before b.middle (take k moves) b.path
 
   -- the image reaches the bound where an entry does
   reaches_entry : (k : ℕ) → ImageReaches bound before w (path_map (take k moves))
@@ -77,8 +77,8 @@ module _ (g : Given) (before target : List (List ℤ)) (moves : List Move) (w : 
       go from ms u zero path l all under = all
       go from [] u (suc k) path l all under = all
       go from (x ∷ ms) u (suc k) (between, t, move, rest) l all under =
-          go between ms (vector_after x u) k rest (length-after from between x u move l)
-          (below-after bound from between x u move l all (under 0 (omega arith)))
+          go between ms (vector_after x u) k rest (length-after g.lower from between x u move l)
+          (below-after g.lower bound from between x u move l all (under 0 (omega arith)))
           (λ j b. under (suc j) (omega arith))
 
   -- the first new number that does
@@ -89,8 +89,9 @@ module _ (g : Given) (before target : List (List ℤ)) (moves : List Move) (w : 
   first_entry k o =
       let s : MoveOf before moves k = move_of before target moves k h o.within in
       let l : length (vector_along (take k moves) w) ≡ edge_count s.from = long k
-      ∙ sym (path_edges before s.from (take k moves) s.path) in
-      let there = entry-flipped s.from s.to (move_at moves k) (vector_along (take k moves) w) s.move l o.over.0 in (
+      ∙ sym (path_edges g.lower before s.from (take k moves) s.path) in
+      let there =
+      entry-flipped g.lower s.from s.to (move_at moves k) (vector_along (take k moves) w) s.move l o.over.0 in (
         subst (λ (n : ℕ). flipped_edge (move_at moves k) < n) (long k) there.0,
         ap (λ (u : List ℕ). slice_index u (flipped_edge (move_at moves k))) (vector_along-next moves k w o.within)
             ∙ there.1,

@@ -8,6 +8,7 @@ use Rattle.ideal_tri.specs.Labels.{edge_of}
 use Rattle.ideal_tri.specs.SurfaceLaws.{TriangleLaws}
 use Rattle.ideal_tri.specs.Triangulations.{IsLabel, edge_count, next}
 use Rattle.ideal_tri.specs.Vectors.{weight, corner_count}
+use Rattle.tri_atlas.proofs.LowerLaws.{LowerLaws}
 use Rattle.tri_atlas.proofs.Vectors.Turns.{HasCornerSums, one_edge, same_number}
 use Rattle.tri_atlas.proofs.Vectors.Quadrilaterals.{Quadrilateral, turned, Sums, sums_of, IsApartFrom}
 use Rattle.tri_atlas.proofs.Vectors.Rows.{Numbers, IsBalanced}
@@ -23,10 +24,10 @@ pub record IsFlippedPair (here there : List (List ℤ)) (w v : List ℕ) (e f a 
   pub numbers : (x : ℤ) → edge_of x ≢ edge_of e → weight v x ≡ weight w x
   pub sum : weight w e + weight v e ≡ max (weight w a + weight w c) (weight w b + weight w d)
 
-pub pair_turned : (here there : List (List ℤ)) (w v : List ℕ) (e f a b c d : ℤ)
+pub pair_turned : LowerLaws → (here there : List (List ℤ)) (w v : List ℕ) (e f a b c d : ℤ)
     → IsFlippedPair here there w v e f a b c d
     → IsFlippedPair here there w v f e c d a b
-pair_turned here there w v e f a b c d h = record {
+pair_turned laws here there w v e f a b c d h = record {
   corners_here = h.corners_here;
   corners_there = h.corners_there;
   sides_here = turned here e f a b c d s;
@@ -42,8 +43,8 @@ pair_turned here there w v e f a b c d h = record {
         from_c = q.from_a;
         from_d = q.from_b;
       });
-  numbers = λ x n. h.numbers x (λ k. n (k ∙ sym (one_edge e f s.f_is)));
-  sum = omega (arith, h.sum, same_number w e f s.f_is, same_number v e f s.f_is);
+  numbers = λ x n. h.numbers x (λ k. n (k ∙ sym (one_edge laws e f s.f_is)));
+  sum = omega (arith, h.sum, same_number laws w e f s.f_is, same_number laws v e f s.f_is);
 }
   where
     s : Quadrilateral here e f a b c d
@@ -78,9 +79,10 @@ numbers_of here there w v e f a b c d = record {
   ld = corner_count there v d;
 }
 
-pub balanced : (here there : List (List ℤ)) (w v : List ℕ) (e f a b c d : ℤ) → IsFlippedPair here there w v e f a b c d
+pub balanced : LowerLaws → (here there : List (List ℤ)) (w v : List ℕ) (e f a b c d : ℤ)
+    → IsFlippedPair here there w v e f a b c d
     → IsBalanced (numbers_of here there w v e f a b c d)
-balanced here there w v e f a b c d h =
+balanced laws here there w v e f a b c d h =
     let first : Sums here w e a b = sums_of here e f a b c d s w h.corners_here in
     let second : Sums here w f c d = sums_of here f e c d a b (turned here e f a b c d s) w h.corners_here in
     let third : Sums there v e d a = sums_of there e f d a b c t v h.corners_there in
@@ -89,7 +91,7 @@ balanced here there w v e f a b c d h =
       e_before = first.side_e;
       a_before = first.side_a;
       b_before = first.side_b;
-      f_before = sym (same_number w e f s.f_is) ∙ second.side_e;
+      f_before = sym (same_number laws w e f s.f_is) ∙ second.side_e;
       c_before = second.side_a;
       d_before = second.side_b;
       e_after = third.side_e;
@@ -100,9 +102,9 @@ balanced here there w v e f a b c d h =
       c_after = fourth.side_b;
       a_stays = h.numbers a s.off_a;
       b_stays = h.numbers b s.off_b;
-      c_stays = h.numbers c (λ k. s.off_c (k ∙ sym (one_edge e f s.f_is)));
-      d_stays = h.numbers d (λ k. s.off_d (k ∙ sym (one_edge e f s.f_is)));
-      one_edge = same_number v e f s.f_is;
+      c_stays = h.numbers c (λ k. s.off_c (k ∙ sym (one_edge laws e f s.f_is)));
+      d_stays = h.numbers d (λ k. s.off_d (k ∙ sym (one_edge laws e f s.f_is)));
+      one_edge = same_number laws v e f s.f_is;
       sum = h.sum;
     }
   where

@@ -8,7 +8,7 @@ use Rattle.ideal_tri.specs.Labels.{inverse, edge_of}
 use Rattle.ideal_tri.specs.SurfaceLaws.{TriangleLaws}
 use Rattle.ideal_tri.specs.Triangulations.{IsLabel, next, previous}
 use Rattle.ideal_tri.specs.Vectors.{weight, corner_count}
-use Rattle.tri_atlas.proofs.Letters.{two_labels, same_or_not}
+use Rattle.tri_atlas.proofs.LowerLaws.{LowerLaws}
 use Rattle.tri_atlas.proofs.Vectors.Turns.{HasCornerSums}
 
 -- ---- the two triangles
@@ -101,19 +101,19 @@ pub data Place (e f a b c d x : ℤ) : Type 0 where
   at_d : x ≡ d → Place e f a b c d x
   apart : IsApartFrom e f a b c d x → Place e f a b c d x
 
-pub place_of : (e f a b c d x : ℤ) → Place e f a b c d x
-place_of e f a b c d x =
-    elim (same_or_not x e) [
+pub place_of : LowerLaws → (e f a b c d x : ℤ) → Place e f a b c d x
+place_of laws e f a b c d x =
+    elim (laws.labels.same_or_not x e) [
       | inl h ↦ at_e h
-      | inr ne ↦ elim (same_or_not x a) [
+      | inr ne ↦ elim (laws.labels.same_or_not x a) [
         | inl h ↦ at_a h
-        | inr na ↦ elim (same_or_not x b) [
+        | inr na ↦ elim (laws.labels.same_or_not x b) [
           | inl h ↦ at_b h
-          | inr nb ↦ elim (same_or_not x f) [
+          | inr nb ↦ elim (laws.labels.same_or_not x f) [
             | inl h ↦ at_f h
-            | inr nf ↦ elim (same_or_not x c) [
+            | inr nf ↦ elim (laws.labels.same_or_not x c) [
               | inl h ↦ at_c h
-              | inr nc ↦ elim (same_or_not x d) [
+              | inr nc ↦ elim (laws.labels.same_or_not x d) [
                 | inl h ↦ at_d h
                 | inr nd ↦ apart (record {
                   from_e = ne;
@@ -131,7 +131,7 @@ place_of e f a b c d x =
     ]
 
 -- the other triangles have no such side
-module _ (triples : List (List ℤ)) (e f a b c d : ℤ) (t : TriangleLaws triples)
+module _ (laws : LowerLaws) (triples : List (List ℤ)) (e f a b c d : ℤ) (t : TriangleLaws triples)
     (s : Quadrilateral triples e f a b c d) where
   twice_before : (x y : ℤ) → IsLabel triples x → next triples x ≡ y → x ≡ next triples (next triples y)
   twice_before x y l is = sym (t.round x l) ∙ ap (λ (z : ℤ). next triples (next triples z)) is
@@ -148,7 +148,7 @@ module _ (triples : List (List ℤ)) (e f a b c d : ℤ) (t : TriangleLaws tripl
 
   pub apart_off : (x : ℤ) → IsApartFrom e f a b c d x → edge_of x ≢ edge_of e
   apart_off x q same =
-      elim (two_labels x e same) [
+      elim (laws.labels.of_edge x e same) [
         | inl k ↦ q.from_e k
         | inr k ↦ q.from_f (k ∙ sym s.f_is)
       ]

@@ -10,41 +10,40 @@ use Rattle.std.proofs.lemmas.List.{get_or-map, length-map}
 use Rattle.ideal_tri.specs.Labels.{inverse, edge_of}
 use Rattle.ideal_tri.specs.Triangulations.{IsTriangulation, IsLabel, edge_count, next, previous}
 use Rattle.ideal_tri.specs.Vectors.{IsMulticurve, weight, corner_count}
-use Rattle.ideal_tri.specs.Relabellings.{image_of, IsRelabelling}
+use Rattle.ideal_tri.specs.Relabellings.{image_of, inverse_images, IsRelabelling}
 use Rattle.ideal_tri.specs.Strands.{State, state_at, IsStrand, strand_step}
-use Rattle.tri_atlas.specs.Moves.{origin_of, inverse_images}
-use Rattle.tri_atlas.proofs.Flips.{inverse_label}
-use Rattle.tri_atlas.proofs.Relabellings.{bijection_of, same_edges, edge_of-image_of, image_of-inverse, label_of_image}
-use Rattle.tri_atlas.proofs.Relabellings.{image_of-origin, origin_below, length-inverse_images, images_follow}
-use Rattle.tri_atlas.proofs.Relabellings.{relabelling_undone}
+use Rattle.tri_atlas.proofs.LowerLaws.{LowerLaws}
+use Rattle.tri_atlas.proofs.Moves.{image_undone}
 use Rattle.tri_atlas.proofs.Vectors.Turns.{HasCornerSums}
 use Rattle.tri_atlas.proofs.Vectors.Given.{Given, sums_of_multicurve, multicurve_of_sums}
 
 -- ---- numbers
 
 -- the number at y is that of the label that goes to y
-weight-moved : (w : List ℕ) (images : List ℤ) (y : ℤ) → edge_of y < length images
+weight-moved : LowerLaws → (w : List ℕ) (images : List ℤ) (y : ℤ) → edge_of y < length images
     → weight (map (weight w) (inverse_images images)) y ≡ weight w (image_of (inverse_images images) y)
-weight-moved w images y below =
+weight-moved laws w images y below =
     get_or-map (weight w) (inverse_images images) (edge_of y) (pos 0) 0
-    (subst (λ (n : ℕ). edge_of y < n) (sym (length-inverse_images images)) below)
-    ∙ ap (slice_index w) (sym (edge_of-image_of (inverse_images images) y))
+    (subst (λ (n : ℕ). edge_of y < n) (sym (laws.bijections.as_many images)) below)
+    ∙ ap (slice_index w) (sym (laws.bijections.edge (inverse_images images) y))
 
-module _ (before target : List (List ℤ)) (images : List ℤ) (w : List ℕ) (h : IsRelabelling before target images) where
+module _ (laws : LowerLaws) (before target : List (List ℤ)) (images : List ℤ) (w : List ℕ)
+    (h : IsRelabelling before target images) where
   pub weight-image : (x : ℤ) → IsLabel before x
       → weight (map (weight w) (inverse_images images)) (image_of images x) ≡ weight w x
   weight-image x l =
-      weight-moved w images (image_of images x)
-      (subst (λ (n : ℕ). edge_of (image_of images x) < n) (sym (h.one_per_edge ∙ same_edges before target images h))
-      (label_of_image before target images x h l))
-      ∙ ap (weight w) (relabelling_undone before target images x h l)
+      weight-moved laws w images (image_of images x)
+      (subst (λ (n : ℕ). edge_of (image_of images x) < n)
+      (sym (h.one_per_edge ∙ laws.relabellings.edges before target images h))
+      (laws.relabellings.label before target images x h l))
+      ∙ ap (weight w) (image_undone laws before target images x h l)
 
   pub length-moved : length (map (weight w) (inverse_images images)) ≡ edge_count target
   length-moved =
       length-map (inverse_images images) (weight w)
-      ∙ length-inverse_images images
+      ∙ laws.bijections.as_many images
       ∙ h.one_per_edge
-      ∙ same_edges before target images h
+      ∙ laws.relabellings.edges before target images h
 
 -- each label of the target is an image
 pub record HasOrigin (before : List (List ℤ)) (images : List ℤ) (y : ℤ) : Type 0 where
@@ -52,15 +51,14 @@ pub record HasOrigin (before : List (List ℤ)) (images : List ℤ) (y : ℤ) : 
   pub label : IsLabel before origin
   pub is : image_of images origin ≡ y
 
-pub origin : (before target : List (List ℤ)) (images : List ℤ) (y : ℤ) → IsRelabelling before target images
+pub origin : LowerLaws → (before target : List (List ℤ)) (images : List ℤ) (y : ℤ) → IsRelabelling before target images
     → IsLabel target y
     → HasOrigin before images y
-origin before target images y h l = record {
-  origin = origin_of images y;
-  label = subst (λ (n : ℕ). edge_of (origin_of images y) < n) (sym (same_edges before target images h))
-      (origin_below (edge_count target) images y (bijection_of before target images h) l);
-  is = image_of-origin (edge_count target) images y (bijection_of before target images h) l;
-}
+origin laws before target images y h l =
+    let long : length images ≡ edge_count target = h.one_per_edge ∙ laws.relabellings.edges before target images h in
+    let (x, below, is) = laws.bijections.onto images y (laws.relabellings.bijection before target images h)
+    (subst (λ (n : ℕ). edge_of y < n) (sym long) l) in
+    record { origin = x; label = subst (λ (n : ℕ). edge_of x < n) h.one_per_edge below; is = is }
 
 -- ---- one relabelling
 
@@ -74,13 +72,13 @@ module _ (g : Given) (before target : List (List ℤ)) (images : List ℤ) (p : 
   im x = image_of images x
 
   number : (x : ℤ) → IsLabel before x → weight moved_vector (image_of images x) ≡ weight w x
-  number x l = weight-image before target images w h x l
+  number x l = weight-image g.lower before target images w h x l
 
   follow : (x : ℤ) → IsLabel before x → next target (image_of images x) ≡ image_of images (next before x)
-  follow x l = (images_follow g.triples before target images x p t h l).second
+  follow x l = g.lower.relabellings.next before target images x p t h l
 
   next_label : (x : ℤ) → IsLabel before x → IsLabel before (next before x)
-  next_label x l = (g.surface.triangles before p).label x l
+  next_label x l = (g.lower.surfaces.triangles before p).label x l
 
   follow_back : (x : ℤ) → IsLabel before x → previous target (image_of images x) ≡ image_of images (previous before x)
   follow_back x l = ap (next target) (follow x l) ∙ follow (next before x) (next_label x l)
@@ -108,7 +106,7 @@ module _ (g : Given) (before target : List (List ℤ)) (images : List ℤ) (p : 
       ly = next_label x l
 
   sums : HasCornerSums before w → HasCornerSums target moved_vector
-  sums k = record { sums = λ y l. from y (origin before target images y h l) }
+  sums k = record { sums = λ y l. from y (origin g.lower before target images y h l) }
     where
       sum : (x : ℤ) → IsLabel before x
           → weight moved_vector (im x)
@@ -133,7 +131,7 @@ module _ (g : Given) (before target : List (List ℤ)) (images : List ℤ) (p : 
 
   pub relabel_multicurve : IsMulticurve before w → IsMulticurve target moved_vector
   relabel_multicurve m =
-      multicurve_of_sums g target moved_vector t (length-moved before target images w h)
+      multicurve_of_sums g target moved_vector t (length-moved g.lower before target images w h)
       (sums (sums_of_multicurve g before w p m))
 
   -- ---- strands
@@ -152,7 +150,7 @@ module _ (g : Given) (before target : List (List ℤ)) (images : List ℤ) (p : 
       → strand_step target moved_vector (moved_state q) ≡ moved_state (strand_step before w q)
   step_moved q l =
       ap (λ (n : ℕ). from (inverse (im q.label)) (n - 1 - q.place)) (number q.label l)
-      ∙ ap (λ (u : ℤ). from u i) (sym (image_of-inverse images q.label))
+      ∙ ap (λ (u : ℤ). from u i) (sym (g.lower.bijections.inverse images q.label))
       ∙ ap (λ (u : ℤ). turn u (previous target (im x)) (weight v (im x)) (weight v (previous target (im x)))
       (corner_count target v (previous target (im x)))) (follow x lx)
       ∙ ap (λ (u : ℤ). turn (im y) u (weight v (im x)) (weight v u) (corner_count target v u)) (follow_back x lx)
@@ -177,7 +175,7 @@ module _ (g : Given) (before target : List (List ℤ)) (images : List ℤ) (p : 
       i = weight w q.label - 1 - q.place
 
       lx : IsLabel before (inverse q.label)
-      lx = inverse_label before q.label l
+      lx = g.lower.labels.label before q.label l
 
       lz : IsLabel before (previous before (inverse q.label))
       lz = next_label y (next_label x lx)
@@ -192,6 +190,6 @@ module _ (g : Given) (before target : List (List ℤ)) (images : List ℤ) (p : 
 
   pub valid_moved : (q : State) → IsStrand before w q → IsStrand target moved_vector (moved_state q)
   valid_moved q s = record {
-    is_label = label_of_image before target images q.label h s.is_label;
+    is_label = g.lower.relabellings.label before target images q.label h s.is_label;
     within = subst (λ (n : ℕ). q.place < n) (sym (number q.label s.is_label)) s.within;
   }

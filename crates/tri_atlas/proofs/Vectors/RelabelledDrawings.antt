@@ -12,15 +12,14 @@ use Rattle.ideal_tri.specs.Words.{cyclic_reduce, IsCyclicallyReduced}
 use Rattle.ideal_tri.specs.Curves.{IsSameCurves}
 use Rattle.ideal_tri.specs.Triangulations.{IsTriangulation, IsLabel, edge_count}
 use Rattle.ideal_tri.specs.Vectors.{IsMulticurve, weight}
-use Rattle.ideal_tri.specs.Relabellings.{image_of, IsRelabelling}
+use Rattle.ideal_tri.specs.Relabellings.{image_of, inverse_images, IsRelabelling}
 use Rattle.ideal_tri.specs.Strands.{State, state_at, IsStrand, IsClosedRun}
 use Rattle.ideal_tri.specs.Strands.{uses, IsDrawing, word_of, words_of}
-use Rattle.tri_atlas.specs.Moves.{relabel, inverse_images}
+use Rattle.tri_atlas.specs.Moves.{relabel}
 use Rattle.tri_atlas.specs.Maps.{image_of_letter, images_under}
 use Rattle.tri_atlas.specs.MovedVectors.{vector_after}
 use Rattle.tri_atlas.specs.VectorLaws.{MovedLaws}
-use Rattle.tri_atlas.proofs.Relabellings.{same_edges, label_of_image, relabelling_undone}
-use Rattle.tri_atlas.proofs.Relabellings.{relabelling_back}
+use Rattle.tri_atlas.proofs.Moves.{image_undone}
 use Rattle.tri_atlas.proofs.Vectors.Given.{Given}
 use Rattle.tri_atlas.proofs.Vectors.FlipLaws.{image_of_curves}
 use Rattle.tri_atlas.proofs.Vectors.Relabelled.{HasOrigin, origin, weight-image, length-moved, relabel_multicurve}
@@ -55,13 +54,13 @@ module _ (g : Given) (before target : List (List ℤ)) (images : List ℤ) (p : 
   once_moved : (runs : List (List State)) → IsDrawing before w runs → (y : ℤ) (i : ℕ) → IsLabel target y
       → i < weight v y
       → uses v (state_at y i) (flat_map (λ run. run) (map (map move) runs)) ≡ 1
-  once_moved runs d y i l within = from (origin before target images y h l)
+  once_moved runs d y i l within = from (origin g.lower before target images y h l)
     where
       from : HasOrigin before images y → uses v (state_at y i) (flat_map (λ run. run) (map (map move) runs)) ≡ 1
       from o =
           let q : State = state_at o.origin i in
           let number : weight v y ≡ weight w o.origin = ap (weight v) (sym o.is)
-          ∙ weight-image before target images w h o.origin o.label in
+          ∙ weight-image g.lower before target images w h o.origin o.label in
           let s : IsStrand before w q = record {
             is_label = o.label;
             within = subst
@@ -96,7 +95,7 @@ module _ (g : Given) (before target : List (List ℤ)) (images : List ℤ) (p : 
       ap (λ (u : List ℤ). cyclic_reduce u ∷ images_under (image_of_letter (relabel images)) (words_of runs))
       (word_moved run)
       ∙ ap (λ (u : List ℤ). u ∷ images_under (image_of_letter (relabel images)) (words_of runs))
-      (g.cyclic.fixed (word_of (map move run))
+      (g.lower.words.cyclic.fixed (word_of (map move run))
       (All-head IsCyclicallyReduced (word_of (map move run)) (words_of (map (map move) runs)) r))
       ∙ ap (λ (us : List (List ℤ)). word_of (map move run) ∷ us)
       (words_moved runs (All-tail IsCyclicallyReduced (word_of (map move run)) (words_of (map (map move) runs)) r))
@@ -110,20 +109,20 @@ module _ (g : Given) (before target : List (List ℤ)) (images : List ℤ) (p : 
       (λ k below. number k (subst (λ (n : ℕ). k < n) long below))
     where
       back : IsRelabelling target before (inverse_images images)
-      back = relabelling_back g.surface g.triples before target images p t h
+      back = g.lower.relabellings.back before target images p t h
 
       long : length (map (weight (map (weight w) (inverse_images images))) (inverse_images (inverse_images images)))
           ≡ edge_count before
-      long = length-moved target before (inverse_images images) v back
+      long = length-moved g.lower target before (inverse_images images) v back
 
       number : (k : ℕ) → k < edge_count before
           → weight (map (weight v) (inverse_images (inverse_images images))) (pos k) ≡ weight w (pos k)
       number k below =
           ap (weight (map (weight v) (inverse_images (inverse_images images))))
-          (sym (relabelling_undone before target images (pos k) h below))
-          ∙ weight-image target before (inverse_images images) v back (image_of images (pos k))
-          (label_of_image before target images (pos k) h below)
-          ∙ weight-image before target images w h (pos k) below
+          (sym (image_undone g.lower before target images (pos k) h below))
+          ∙ weight-image g.lower target before (inverse_images images) v back (image_of images (pos k))
+          (g.lower.relabellings.label before target images (pos k) h below)
+          ∙ weight-image g.lower before target images w h (pos k) below
 
   curves_moved : (runs after : List (List State)) → IsDrawing before w runs → IsDrawing target v after
       → IsSameCurves (images_under (image_of_letter (relabel images)) (words_of runs)) (words_of after)
@@ -139,8 +138,8 @@ module _ (g : Given) (before target : List (List ℤ)) (images : List ℤ) (p : 
     multicurve = relabel_multicurve g before target images p t h w m;
     curves = curves_moved;
     image =
-        image_of_curves g before target w v (image_of_letter (relabel images)) t
+        image_of_curves g before target w v (image_of_letter (relabel images)) t m
         (relabel_multicurve g before target images p t h w m)
-        (sym (same_edges before target images h)) curves_moved;
+        (sym (g.lower.relabellings.edges before target images h)) curves_moved;
     back = back_moved;
   }

@@ -13,13 +13,10 @@ use Rattle.std.proofs.lemmas.List.Sums.{sum_by-cons}
 use Rattle.ideal_tri.specs.Labels.{inverse}
 use Rattle.ideal_tri.specs.Triangulations.{IsTriangulation, IsLabel}
 use Rattle.ideal_tri.specs.Vectors.{IsMulticurve, weight}
-use Rattle.ideal_tri.specs.Relabellings.{image_of, IsRelabelling}
+use Rattle.ideal_tri.specs.Relabellings.{image_of, inverse_images, IsRelabelling}
 use Rattle.ideal_tri.specs.Strands.{State, state_at, IsStrand, same_state, opposite, strand_step, Runs, IsClosedRun}
 use Rattle.ideal_tri.specs.Strands.{uses}
-use Rattle.tri_atlas.specs.Moves.{inverse_images}
-use Rattle.tri_atlas.proofs.Letters.{same_or_not, int_eq-same, int_eq-other}
-use Rattle.tri_atlas.proofs.Flips.{inverse_label}
-use Rattle.tri_atlas.proofs.Relabellings.{image_of-inverse, relabelling_undone}
+use Rattle.tri_atlas.proofs.Moves.{image_undone}
 use Rattle.tri_atlas.proofs.Vectors.Given.{Given}
 use Rattle.tri_atlas.proofs.Vectors.Relabelled.{weight-image}
 use Rattle.tri_atlas.proofs.Vectors.Relabelled.{step_moved, valid_moved}
@@ -45,13 +42,15 @@ module _ (g : Given) (before target : List (List ℤ)) (images : List ℤ) (p : 
   same_letter : (x y : ℤ) → IsLabel before x → IsLabel before y
       → int_eq (image_of images x) (image_of images y) ≡ int_eq x y
   same_letter x y lx ly =
-      elim (same_or_not x y) [
-        | inl e ↦ int_eq-same (image_of images x) (image_of images y) (ap (image_of images) e) ∙ sym (int_eq-same x y e)
+      elim (g.lower.labels.same_or_not x y) [
+        | inl e ↦
+            (g.lower.labels.test_same (image_of images x) (image_of images y) (ap (image_of images) e)
+            ∙ sym (g.lower.labels.test_same x y e))
         | inr ne ↦
-            (int_eq-other (image_of images x) (image_of images y)
-            (λ e. ne (sym (relabelling_undone before target images x h lx) ∙ ap
-            (image_of (inverse_images images)) e ∙ relabelling_undone before target images y h ly))
-            ∙ sym (int_eq-other x y ne))
+            (g.lower.labels.test_other (image_of images x) (image_of images y)
+            (λ e. ne (sym (image_undone g.lower before target images x h lx) ∙ ap
+            (image_of (inverse_images images)) e ∙ image_undone g.lower before target images y h ly))
+            ∙ sym (g.lower.labels.test_other x y ne))
       ]
 
   same_state_moved : (q r : State) → IsLabel before q.label → IsLabel before r.label
@@ -72,9 +71,9 @@ module _ (g : Given) (before target : List (List ℤ)) (images : List ℤ) (p : 
   opposite_moved : (q : State) → IsLabel before q.label → opposite v (move q) ≡ move (opposite w q)
   opposite_moved q l =
       ap (λ (y : ℤ). state_at y (weight v (image_of images q.label) - 1 - q.place))
-      (sym (image_of-inverse images q.label))
+      (sym (g.lower.bijections.inverse images q.label))
       ∙ ap (λ (n : ℕ). state_at (image_of images (inverse q.label)) (n - 1 - q.place))
-      (weight-image before target images w h q.label l)
+      (weight-image g.lower before target images w h q.label l)
 
   pub uses_moved : (q : State) (run : List State) → IsLabel before q.label → OnLabels run
       → uses v (move q) (map move run) ≡ uses w q run
@@ -83,7 +82,7 @@ module _ (g : Given) (before target : List (List ℤ)) (images : List ℤ) (p : 
       (opposite_moved q l)
       ∙ ap (λ (n : ℕ). n + count_by (same_state (move (opposite w q))) (map move run)) (count_moved q run l s)
       ∙ ap (λ (n : ℕ). count_by (same_state q) run + n)
-      (count_moved (opposite w q) run (inverse_label before q.label l) s)
+      (count_moved (opposite w q) run (g.lower.labels.label before q.label l) s)
 
   -- ---- runs
 

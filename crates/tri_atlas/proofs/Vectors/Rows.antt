@@ -15,7 +15,7 @@ use Rattle.std.proofs.Common.{ℕ, ℤ, Bool, List, [], ◌∷◌, ◌++◌, ◌
 use Rattle.ideal_tri.specs.Labels.{inverse}
 use Rattle.ideal_tri.specs.Words.{inverse_word, push, reduce}
 use Rattle.ideal_tri.specs.Strands.{State, state_at}
-use Rattle.tri_atlas.proofs.Letters.{inverse-inverse, int_eq-same}
+use Rattle.tri_atlas.proofs.LowerLaws.{LowerLaws}
 use Rattle.tri_atlas.proofs.Vectors.Exits.{FirstExit, SecondExit}
 
 -- ---- numbers
@@ -99,13 +99,13 @@ agrees pre x z X Y letters others u v s t at_X at_Y places is_u is_v is_s is_t w
       ∙ sym is_t;
 }
 
-cancel_pair : (x y : ℤ) → y ≡ inverse x → reduce (x ∷ (y ∷ [])) ≡ []
-cancel_pair x y h = ap (λ (b : Bool). cond b [] (x ∷ (y ∷ []))) (int_eq-same y (inverse x) h)
+cancel_pair : LowerLaws → (x y : ℤ) → y ≡ inverse x → reduce (x ∷ (y ∷ [])) ≡ []
+cancel_pair laws x y h = ap (λ (b : Bool). cond b [] (x ∷ (y ∷ []))) (laws.labels.test_same y (inverse x) h)
 
 -- ---- from a and from b
 
-module _ (pre : ℤ → List ℤ) (e f a b c d : ℤ) (n : Numbers) (h : IsBalanced n) (f_is : f ≡ inverse e)
-    (p : Prefixes pre e f a b c d)
+module _ (laws : LowerLaws) (pre : ℤ → List ℤ) (e f a b c d : ℤ) (n : Numbers) (h : IsBalanced n)
+    (f_is : f ≡ inverse e) (p : Prefixes pre e f a b c d)
     (i : ℕ) (X Y : State) (letters others : List ℤ) where
   pub from_a : FirstExit n.ke n.kd n.A n.E n.D i e b c d X letters
       → SecondExit n.ld n.lc n.D' n.A' n.F n.C' i d b c e Y others
@@ -120,7 +120,7 @@ module _ (pre : ℤ → List ℤ) (e f a b c d : ℤ) (n : Numbers) (h : IsBalan
       agrees pre a c X Y letters others [] (e ∷ []) [] (e ∷ []) at at' (omega arith) p.at_a is p.at_c is' refl
   from_a (FirstExit.across_d k k' at place is) (SecondExit.near l at' place' is') =
       agrees pre a d X Y letters others [] (e ∷ []) (f ∷ []) [] at at' (omega arith) p.at_a is p.at_d is'
-      (cancel_pair e f f_is)
+      (cancel_pair laws e f f_is)
   from_a (FirstExit.across_d k k' at place is) (SecondExit.across_c l j there m at' place' is') = absurd (omega arith)
   from_a (FirstExit.across_d k k' at place is) (SecondExit.across_d l j there m at' place' is') = absurd (omega arith)
 
@@ -134,11 +134,11 @@ module _ (pre : ℤ → List ℤ) (e f a b c d : ℤ) (n : Numbers) (h : IsBalan
       (ap (λ (x : ℤ). x ∷ []) (sym f_is))
   from_b (SecondExit.across_c k j there m at place is) (FirstExit.near l at' place' is') =
       agrees pre b c X Y letters others (e ∷ []) (e ∷ []) [] [] at at' (omega arith) p.at_b is p.at_c is'
-      (cancel_pair (inverse e) e (sym (inverse-inverse e)))
+      (cancel_pair laws (inverse e) e (sym (laws.labels.twice e)))
   from_b (SecondExit.across_c k j there m at place is) (FirstExit.across_c l l' at' place' is') = absurd (omega arith)
   from_b (SecondExit.across_c k j there m at place is) (FirstExit.across_d l l' at' place' is') = absurd (omega arith)
   from_b (SecondExit.across_d k j there m at place is) (FirstExit.near l at' place' is') = absurd (omega arith)
   from_b (SecondExit.across_d k j there m at place is) (FirstExit.across_c l l' at' place' is') =
       agrees pre b d X Y letters others (e ∷ []) (e ∷ []) (f ∷ []) (f ∷ []) at at' (omega arith) p.at_b is p.at_d is'
-      (ap (push (inverse e)) (cancel_pair e f f_is) ∙ ap (λ (x : ℤ). x ∷ []) (sym f_is))
+      (ap (push (inverse e)) (cancel_pair laws e f f_is) ∙ ap (λ (x : ℤ). x ∷ []) (sym f_is))
   from_b (SecondExit.across_d k j there m at place is) (FirstExit.across_d l l' at' place' is') = absurd (omega arith)

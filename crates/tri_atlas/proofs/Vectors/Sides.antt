@@ -6,18 +6,18 @@
 use Rattle.std.proofs.Common.{ℤ, List, ◌≡◌, ◌≢◌, inl, inr, refl, sym, ◌∙◌, ap, subst}
 use Rattle.ideal_tri.specs.Labels.{inverse, edge_of}
 use Rattle.ideal_tri.specs.SurfaceLaws.{TriangleLaws}
-use Rattle.ideal_tri.specs.FlipLaws.{FlipLaws}
+use Rattle.ideal_tri.specs.FlipLaws.{OneFlipLaws}
 use Rattle.ideal_tri.specs.Flips.{flipped}
 use Rattle.ideal_tri.specs.Triangulations.{IsLabel, triangle_of, next}
 use Rattle.tri_atlas.specs.Moves.{IsFlip}
-use Rattle.tri_atlas.proofs.Letters.{inverse-inverse, edge_of-inverse, two_labels}
-use Rattle.tri_atlas.proofs.Flips.{inverse_label, label_after_flip}
+use Rattle.tri_atlas.proofs.LowerLaws.{LowerLaws}
+use Rattle.tri_atlas.proofs.Flips.{label_after_flip}
 use Rattle.tri_atlas.proofs.Vectors.Quadrilaterals.{Quadrilateral, IsApartFrom}
 
-module _ (before target : List (List ℤ)) (e a b c d : ℤ) (t : TriangleLaws before)
+module _ (laws : LowerLaws) (before target : List (List ℤ)) (e a b c d : ℤ) (t : TriangleLaws before)
     (h : IsFlip before target e a b c d) where
   other : IsLabel before (inverse e)
-  other = inverse_label before e h.label
+  other = laws.labels.label before e h.label
 
   triangle_of_a : triangle_of before a ≡ triangle_of before e
   triangle_of_a = ap (triangle_of before) h.side_a ∙ t.stays e h.label
@@ -38,7 +38,7 @@ module _ (before target : List (List ℤ)) (e a b c d : ℤ) (t : TriangleLaws b
       → triangle_of before y ≢ triangle_of before z
       → edge_of x ≢ edge_of y
   off x y z z_is ne same apart is =
-      elim (two_labels x y is) [
+      elim (laws.labels.of_edge x y is) [
         | inl k ↦ ne k
         | inr k ↦ apart (sym same ∙ ap (triangle_of before) (k ∙ sym z_is))
       ]
@@ -46,7 +46,7 @@ module _ (before target : List (List ℤ)) (e a b c d : ℤ) (t : TriangleLaws b
   pub sides_before : Quadrilateral before e (inverse e) a b c d
   sides_before = record {
     f_is = refl;
-    e_is = sym (inverse-inverse e);
+    e_is = sym (laws.labels.twice e);
     after_e = sym h.side_a;
     after_a = ap (next before) h.side_a ∙ sym h.side_b;
     after_b = ap (next before) h.side_b ∙ t.round e h.label;
@@ -62,23 +62,23 @@ module _ (before target : List (List ℤ)) (e a b c d : ℤ) (t : TriangleLaws b
     off_a = off a e (inverse e) refl (λ k. (t.moves e h.label).0 (sym h.side_a ∙ k)) triangle_of_a h.flippable;
     off_b = off b e (inverse e) refl (λ k. (t.moves e h.label).1 (sym h.side_b ∙ k)) triangle_of_b h.flippable;
     off_c =
-        off c (inverse e) e (sym (inverse-inverse e))
+        off c (inverse e) e (sym (laws.labels.twice e))
         (λ k. (t.moves (inverse e) other).0 (sym h.side_c ∙ k)) triangle_of_c (λ k. h.flippable (sym k));
     off_d =
-        off d (inverse e) e (sym (inverse-inverse e))
+        off d (inverse e) e (sym (laws.labels.twice e))
         (λ k. (t.moves (inverse e) other).1 (sym h.side_d ∙ k)) triangle_of_d (λ k. h.flippable (sym k));
   }
 
-  pub sides_after : FlipLaws before e → Quadrilateral target e (inverse e) d a b c
-  sides_after laws = record {
+  pub sides_after : OneFlipLaws before e → Quadrilateral target e (inverse e) d a b c
+  sides_after flip = record {
     f_is = refl;
-    e_is = sym (inverse-inverse e);
-    after_e = now e ∙ laws.after_e ∙ sym h.side_d;
-    after_a = now d ∙ ap (next flipped_one) h.side_d ∙ laws.after_d ∙ sym h.side_a;
-    after_b = now a ∙ ap (next flipped_one) h.side_a ∙ laws.after_a;
-    after_f = now (inverse e) ∙ laws.after_inverse ∙ sym h.side_b;
-    after_c = now b ∙ ap (next flipped_one) h.side_b ∙ laws.after_b ∙ sym h.side_c;
-    after_d = now c ∙ ap (next flipped_one) h.side_c ∙ laws.after_c;
+    e_is = sym (laws.labels.twice e);
+    after_e = now e ∙ flip.after_e ∙ sym h.side_d;
+    after_a = now d ∙ ap (next flipped_one) h.side_d ∙ flip.after_d ∙ sym h.side_a;
+    after_b = now a ∙ ap (next flipped_one) h.side_a ∙ flip.after_a;
+    after_f = now (inverse e) ∙ flip.after_inverse ∙ sym h.side_b;
+    after_c = now b ∙ ap (next flipped_one) h.side_b ∙ flip.after_b ∙ sym h.side_c;
+    after_d = now c ∙ ap (next flipped_one) h.side_c ∙ flip.after_c;
     label_e = still e s.label_e;
     label_a = still d s.label_d;
     label_b = still a s.label_a;
@@ -101,16 +101,16 @@ module _ (before target : List (List ℤ)) (e a b c d : ℤ) (t : TriangleLaws b
       now x = ap (λ (u : List (List ℤ)). next u x) h.result
 
       still : (x : ℤ) → IsLabel before x → IsLabel target x
-      still x l = label_after_flip before target e a b c d x h l
+      still x l = label_after_flip laws before target e a b c d x h l
 
       same_edge : edge_of (inverse e) ≡ edge_of e
-      same_edge = edge_of-inverse e
+      same_edge = laws.labels.edge e
 
-  pub others_stay : FlipLaws before e → (x : ℤ) → IsLabel before x → IsApartFrom e (inverse e) a b c d x
+  pub others_stay : OneFlipLaws before e → (x : ℤ) → IsLabel before x → IsApartFrom e (inverse e) a b c d x
       → next target x ≡ next before x
-  others_stay laws x l q =
+  others_stay flip x l q =
       ap (λ (u : List (List ℤ)). next u x) h.result
-      ∙ laws.after_other x l (
+      ∙ flip.after_other x l (
         q.from_e,
         λ k. q.from_a (k ∙ sym h.side_a),
         λ k. q.from_b (k ∙ sym h.side_b),

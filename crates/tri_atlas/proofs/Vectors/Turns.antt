@@ -13,15 +13,15 @@ use Rattle.ideal_tri.specs.Labels.{inverse, edge_of}
 use Rattle.ideal_tri.specs.Triangulations.{IsLabel, next, previous}
 use Rattle.ideal_tri.specs.Vectors.{weight, corner_count}
 use Rattle.ideal_tri.specs.Strands.{State, state_at, IsStrand, strand_step}
-use Rattle.tri_atlas.proofs.Letters.{edge_of-inverse}
+use Rattle.tri_atlas.proofs.LowerLaws.{LowerLaws}
 
 -- ---- the two labels of an edge
 
-pub one_edge : (x y : ℤ) → y ≡ inverse x → edge_of y ≡ edge_of x
-one_edge x y is = ap edge_of is ∙ edge_of-inverse x
+pub one_edge : LowerLaws → (x y : ℤ) → y ≡ inverse x → edge_of y ≡ edge_of x
+one_edge laws x y is = ap edge_of is ∙ laws.labels.edge x
 
-pub same_number : (w : List ℕ) (x y : ℤ) → y ≡ inverse x → weight w y ≡ weight w x
-same_number w x y is = ap (slice_index w) (one_edge x y is)
+pub same_number : LowerLaws → (w : List ℕ) (x y : ℤ) → y ≡ inverse x → weight w y ≡ weight w x
+same_number laws w x y is = ap (slice_index w) (one_edge laws x y is)
 
 -- ---- one step
 
@@ -35,7 +35,7 @@ pub data Turns (k : ℕ) (y z : ℤ) (n m i : ℕ) (r : State) : Type 0 where
   on : k ≤ i → r.label ≡ y → i + r.place + 1 ≡ n → Turns k y z n m i r
   back : i < k → r.label ≡ z → i + r.place + 1 ≡ m → Turns k y z n m i r
 
-module _ (triples : List (List ℤ)) (w : List ℕ) where
+module _ (laws : LowerLaws) (triples : List (List ℤ)) (w : List ℕ) where
   -- where a strand that enters through place i of x goes
   abbrev TurnsFrom : ℤ → ℕ → ℕ → State → Type 0
   TurnsFrom x n i r =
@@ -55,7 +55,7 @@ module _ (triples : List (List ℤ)) (w : List ℕ) where
         | inr above ↦
             (let is = pick true (le-leb k at (omega (arith, at_is))) in
             on above (ap (λ (r : State). r.label) is)
-            (omega (arith, ap (λ (r : State). r.place) is, same_number w q.label x refl, at_is)))
+            (omega (arith, ap (λ (r : State). r.place) is, same_number laws w q.label x refl, at_is)))
       ]
     where
       x : ℤ

@@ -1,6 +1,16 @@
 use Rattle.std.proofs.Common.{rules, ◌≡◌, ◌≤◌, ℕ, Some, length, ◌∙◌, sym, ap, subst, refl}
+use Rattle.flip_io.specs.Reads.{no_read, next_read}
 use Rattle.flip_io.proofs.Pieces.{has_some, not_err, next_bytes, piece-IsLonger, whole_file}
 use Rattle.flip_io.proofs.whole.read_all.Goals as goal
+
+pub loop-bytes-init : goal.loop-bytes-init
+loop-bytes-init g c = record {
+  within = search rules;
+  told = search rules;
+  uncounted = λ other. refl;
+  reads = no_read _;
+  start = λ files file told there. search rules;
+}
 
 pub returns-then-n-eq0-clause-whole : goal.returns-then-n-eq0-clause-whole
 returns-then-n-eq0-clause-whole g c = λ files told.
@@ -32,11 +42,24 @@ returns-then-n-limit-clause-too_long g c = λ files told.
     c.in_ok-n.ensures.count (search rules) (search rules) in
     (λ _. (longer, (λ e. cc), (λ e. cc)), λ _. refl)
 
+pub returns-in_err-n-clause-reads : goal.returns-in_err-n-clause-reads
+returns-in_err-n-clause-reads g c = next_read _ c.loop-bytes.invariant.reads refl c.in_err-n.ensures.read
+
+pub returns-then-n-eq0-clause-reads : goal.returns-then-n-eq0-clause-reads
+returns-then-n-eq0-clause-reads g c = next_read _ c.loop-bytes.invariant.reads refl c.in_ok-n.ensures.read
+
+pub returns-then-n-limit-clause-reads : goal.returns-then-n-limit-clause-reads
+returns-then-n-limit-clause-reads g c = next_read _ c.loop-bytes.invariant.reads refl c.in_ok-n.ensures.read
+
+pub returns-in_err-extend_from_slice-clause-reads : goal.returns-in_err-extend_from_slice-clause-reads
+returns-in_err-extend_from_slice-clause-reads g c = next_read _ c.loop-bytes.invariant.reads refl c.in_ok-n.ensures.read
+
 pub loop-bytes-preserved : goal.loop-bytes-preserved
 loop-bytes-preserved g c = record {
   within = search rules;
   told = search rules;
-  later = search rules;
+  uncounted = search rules;
+  reads = next_read _ c.loop-bytes.invariant.reads refl c.in_ok-n.ensures.read;
   start = λ files file told there.
       let here = c.loop-bytes.invariant.told ∙ told in
       let piece = c.in_ok-n.ensures.bytes files file here there in

@@ -1,4 +1,3 @@
-use Rattle.std.proofs.Common.{inl}
 use Rattle.flipper_cli.specs.Command.{command}
 use Rattle.flipper_cli.specs.Headline.{IsHeadline}
 use Rattle.flip_io.specs.Files.{Files}
@@ -8,16 +7,21 @@ use Rattle.flipper_cli.proofs.program.run.Goals as goal
 
 pub returns-clause-run : goal.returns-clause-run
 returns-clause-run g c = λ files over.
-    record { made = shown c.work-made.result; fits = c.work-made.ensures.report files over; written = c.deliver.ensures.written }
+    record {
+      made = shown c.work-made.result;
+      fits = c.work-made.ensures.report files over;
+      written = c.deliver.ensures.written;
+    }
 
 pub returns-clause-quiet : goal.returns-clause-quiet
 returns-clause-quiet g c = λ files over quiet.
-    reported _ files c.work-made.result _ _ _ _ _ _ _ _ _ _ _ (c.work-made.ensures.report files over) c.deliver.ensures.written quiet
+    reported _ files c.work-made.result _ _ _ _ _ _ _ _ _ _ _ (c.work-made.ensures.report files over)
+    c.deliver.ensures.written quiet
     c.work-made.ensures.failed c.deliver.ensures.sinks
 
 pub returns-clause-lacking : goal.returns-clause-lacking
 returns-clause-lacking g c = λ files told lack.
-    lacking _ files c.work-made.result _ _ _ _ _ (c.work-made.ensures.report files (inl told)) c.deliver.ensures.written lack
+    lacking c.work-made.result _ _ _ _ _ ((c.work-made.ensures.lacks files told).1 lack) c.deliver.ensures.written
 
 pub returns-clause-silent : goal.returns-clause-silent
 returns-clause-silent g c = silent c.work-made.result _ _ _ _ _ c.deliver.ensures.written
@@ -30,6 +34,7 @@ returns-clause-headline g c = λ files told done.
 
 pub returns-clause-some_files : goal.returns-clause-some_files
 returns-clause-some_files g c = λ done.
-    let t = taken (λ printed. (files : Files) × IsHeadline (command c.args.words.now) files printed) c.work-made.result _ _ _ _ _
+    let t = taken (λ printed. (files : Files) × IsHeadline (command c.args.words.now) files printed)
+    c.work-made.result _ _ _ _ _
     c.work-made.ensures.some_files c.deliver.ensures.written done in
     (t.2.0, record { printed = t.0; taken = t.1; true_of = t.2.1 })

@@ -1,4 +1,4 @@
-use Rattle.flipper_cli.specs.KeptSurface.{generators_of}
+use Rattle.flipper_cli.specs.inside.KeptSurface.{generators_of}
 use Rattle.flipper_cli.proofs.Listed.{AreRead}
 use Rattle.flipper_cli.proofs.surface.relabellings_in.Given as goal
 

@@ -1,11 +1,10 @@
 use Rattle.std.proofs.Common.{ap, sym, ◌∙◌}
 use Rattle.std.specs.Option.{option_map}
-use Rattle.flipper_cli.proofs.Refused.{told_triangulation}
+use Rattle.flipper_cli.proofs.Refused.{IsWhole, passed, refused_triangles}
 use Rattle.flipper_cli.proofs.surface.triangulation_in.Goals as goal
 
-pub returns : goal.returns
-returns c =
-    rw c.ok.ensures.value
-    (told_triangulation _ c.in-Some.triangles.items c.deref.result.now c.from_triples.result
-    (ap (option_map (λ v. v.items)) (sym c.in-Some.is) ∙ c.in_ok-triangles.ensures)
-    c.deref.ensures.value c.from_triples.ensures.accepted c.from_triples.ensures.size c.from_triples.ensures.refused)
+pub returns-in_err-from_triples-clause-found : goal.returns-in_err-from_triples-clause-found
+returns-in_err-from_triples-clause-found c =
+    let told = ap (option_map (λ v. v.items)) (sym c.in-Some.is) ∙ c.in_ok-triangles.ensures in
+    passed _ IsWhole _ _ c.from_residual-in_err-from_triples.ensures.1
+    (refused_triangles _ _ _ told c.deref.ensures.value c.in_err-from_triples.ensures.exact)

@@ -17,7 +17,8 @@ pub returns-then-not-is_even : goal.returns-then-not-is_even
 returns-then-not-is_even c = (
   λ t. absurd (grind arith),
   λ m.
-      let even = holds_at (IsEven c.args.w.now) c.args.tri.now c.triple-triangle.result c.loop-t.t (omega arith) c.triple-triangle.ensures.triple m.even in
+      let even = holds_at (IsEven c.args.w.now) c.args.tri.now c.triple-triangle.result c.loop-t.t (omega arith)
+      c.triple-triangle.ensures.triple m.even in
       c.if-not-is_even.ensures.1 even,
 )
 
@@ -26,17 +27,20 @@ returns-then-not-has_no_long_side c = (
   λ t. absurd (grind arith),
   λ m.
       let short =
-      holds_at (HasNoLongSide c.args.w.now) c.args.tri.now c.triple-triangle.result c.loop-t.t (omega arith) c.triple-triangle.ensures.triple m.no_long_side in
+      holds_at (HasNoLongSide c.args.w.now) c.args.tri.now c.triple-triangle.result c.loop-t.t (omega arith)
+      c.triple-triangle.ensures.triple m.no_long_side in
       c.if-not-has_no_long_side.ensures.1 short,
 )
 
 pub loop-t-preserved : goal.loop-t-preserved
 loop-t-preserved c = record {
   even =
-      all_more (IsEven c.args.w.now) c.args.tri.now c.triple-triangle.result c.loop-t.t (omega arith) c.triple-triangle.ensures.triple
+      all_more (IsEven c.args.w.now) c.args.tri.now c.triple-triangle.result c.loop-t.t (omega arith)
+      c.triple-triangle.ensures.triple
       c.loop-t.invariant.even (c.if-not-is_even.ensures.0 refl);
   no_long_side =
-      all_more (HasNoLongSide c.args.w.now) c.args.tri.now c.triple-triangle.result c.loop-t.t (omega arith) c.triple-triangle.ensures.triple
+      all_more (HasNoLongSide c.args.w.now) c.args.tri.now c.triple-triangle.result c.loop-t.t (omega arith)
+      c.triple-triangle.ensures.triple
       c.loop-t.invariant.no_long_side (c.if-not-has_no_long_side.ensures.0 refl);
 }
 
@@ -45,7 +49,8 @@ returns c = (
   λ t. record {
     one_per_edge = omega arith;
     even = all_from_take (IsEven c.args.w.now) c.args.tri.now c.loop-t.t (omega arith) c.loop-t.invariant.even;
-    no_long_side = all_from_take (HasNoLongSide c.args.w.now) c.args.tri.now c.loop-t.t (omega arith) c.loop-t.invariant.no_long_side;
+    no_long_side = all_from_take (HasNoLongSide c.args.w.now) c.args.tri.now c.loop-t.t (omega arith)
+        c.loop-t.invariant.no_long_side;
   },
   λ m. refl,
 )

@@ -1,10 +1,12 @@
-use Rattle.std.proofs.Common.{◌≡◌, ◌⊎◌, ℕ, List, Option, Some, subst, sym, refl, inl, inr, Result, Ok, Err, Vec, Global, IfOk, Bor, ap, ◌∙◌}
+use Rattle.std.proofs.Common.{◌≡◌, ◌⊎◌, ℕ, List, Option, Some, subst, sym, refl, inl, inr, Result, Ok, Err, Vec, Global}
+use Rattle.std.proofs.Common.{IfOk, Bor, ap, ◌∙◌}
 use Rattle.flip_io.specs.Files.{Files}
+use Rattle.flip_io.specs.Reads.{AfterReads, no_read}
 use Rattle.flipper_cli.specs.Answers.{Report, refused}
-use Rattle.flipper_cli.specs.declared.report.Refusal.{Refusal}
-use Rattle.flipper_cli.specs.declared.report.Refusal.TheVariants.{Failed, Memory}
+use Rattle.flipper_cli.specs.declared.answers.Refusal.{Refusal}
+use Rattle.flipper_cli.specs.declared.answers.Refusal.TheVariants.{Failed, Memory}
 use Rattle.flipper_cli.specs.Command.{Command, image, IsReadBy}
-use Rattle.flipper_cli.specs.Seen.{seen}
+use Rattle.flipper_cli.specs.inside.Seen.{seen}
 use Rattle.flipper_cli.specs.declared.command.Command.{Command as Asked}
 use Rattle.flipper_cli.specs.declared.command.Command.TheVariants.{Image}
 use Rattle.flipper_cli.specs.Headline.{IsHeadline, IsImage}
@@ -22,7 +24,8 @@ as_image : (a : Asked) → IsImageOf a
 as_image (Image file word coordinates) = record { file = file; word = word; coordinates = coordinates; is = refl }
 
 -- a call that reads a name is over the files that the shelf tells
-told_files : (o : Option Command) (file word coordinates : List ℕ) (Told : Type 0) → o ≡ Some (image file word coordinates)
+told_files : (o : Option Command) (file word coordinates : List ℕ) (Told : Type 0)
+    → o ≡ Some (image file word coordinates)
     → Told ⊎ ((name : List ℕ) → IsReadBy o name → ⊥) → Told
 told_files o file word coordinates Told is (inl told) = told
 told_files o file word coordinates Told is (inr none) =
@@ -30,7 +33,8 @@ told_files o file word coordinates Told is (inr none) =
     absurd (none file (subst Reads (sym is) refl))
 
 -- the report of `image` is that of the words
-reported : (o : Option Command) (file word coordinates : List ℕ) (Told : Type 0) (files : Files) (r : Report) → o ≡ Some (image file word coordinates)
+reported : (o : Option Command) (file word coordinates : List ℕ) (Told : Type 0) (files : Files) (r : Report)
+    → o ≡ Some (image file word coordinates)
     → Told ⊎ ((name : List ℕ) → IsReadBy o name → ⊥)
     → (Told → IsFileReport (files file) word coordinates r ⊎ ((r ≡ refused Failed) ⊎ (r ≡ refused Memory)))
     → IsReport o files r ⊎ ((r ≡ refused Failed) ⊎ (r ≡ refused Memory))
@@ -39,13 +43,23 @@ reported o file word coordinates Told files r is over answer =
     subst Answers (sym is) (answer (told_files o file word coordinates Told is over))
 
 -- what `image` printed is what the words ask for
-printed_image : (o : Option Command) (file word coordinates : List ℕ) (files : Files) (r : Result (Vec ℕ Global) Refusal)
+printed_image : (o : Option Command) (file word coordinates : List ℕ) (files : Files)
+    (r : Result (Vec ℕ Global) Refusal)
     → o ≡ Some (image file word coordinates)
     → IfOk r (λ bytes. (found : List ℕ) × (files file ≡ Some found) × IsImage found word coordinates bytes.items)
     → IfOk r (λ bytes. IsHeadline o files bytes.items)
 printed_image o file word coordinates files r is h =
     let Prints : Option Command → Type 0 = λ p. IfOk r (λ bytes. IsHeadline p files bytes.items) in
     subst Prints (sym is) h
+
+-- the names that are read are those that the words read
+read_by : {S : Type 0} (o : Option Command) (file word coordinates : List ℕ) (after_read : S → List ℕ → S → Type 0)
+    (s t : S)
+    → o ≡ Some (image file word coordinates) → AfterReads after_read (λ read. read ≡ file) s t
+    → AfterReads after_read (IsReadBy o) s t
+read_by o file word coordinates after_read s t is reads =
+    let Reads : Option Command → Type 0 = λ p. AfterReads after_read (IsReadBy p) s t in
+    subst Reads (sym is) reads
 
 -- and over any shelf for some files
 some_image : (o : Option Command) (file word coordinates : List ℕ) (r : Result (Vec ℕ Global) Refusal)
@@ -63,6 +77,16 @@ returns-in-Some-Image-clause-report g c = λ files over.
     let is = c.in-Some-Image.ensures ∙ ap (λ (a : Asked). Some (seen a)) e.is in
     let answer = rw e.is at (c.image_of_file.ensures.report files) in
     reported _ _ _ _ _ files _ is over answer
+
+pub returns-in-None-clause-reads : goal.returns-in-None-clause-reads
+returns-in-None-clause-reads g c = no_read _
+
+pub returns-in-Some-Image-clause-reads : goal.returns-in-Some-Image-clause-reads
+returns-in-Some-Image-clause-reads g c =
+    let e = as_image c.in-Some-Image.field-0 in
+    let is = c.in-Some-Image.ensures ∙ ap (λ (a : Asked). Some (seen a)) e.is in
+    let reads = rw e.is at c.image_of_file.ensures.reads in
+    read_by _ _ _ _ _ _ _ is reads
 
 pub returns-in-Some-Image-clause-headline : goal.returns-in-Some-Image-clause-headline
 returns-in-Some-Image-clause-headline g c = λ files told.

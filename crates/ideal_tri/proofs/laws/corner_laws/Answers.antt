@@ -3,7 +3,8 @@ use Rattle.ideal_tri.specs.Vectors.{corner_count}
 use Rattle.ideal_tri.proofs.Triangles.{triangle_laws}
 use Rattle.ideal_tri.proofs.Drawings.States.{setting}
 use Rattle.ideal_tri.proofs.Drawings.CornerCounts.{multicurve_of_counts, corners_of_counts, sum_counts}
-use Rattle.ideal_tri.proofs.Drawings.LeastCounts.{tail_corner, least_count_there, least_count_least, least_count_same, stripped_multicurve, corners_left, stripped_has_free, stripped_twice}
+use Rattle.ideal_tri.proofs.Drawings.LeastCounts.{tail_corner, least_count_there, least_count_least, least_count_same}
+use Rattle.ideal_tri.proofs.Drawings.LeastCounts.{stripped_multicurve, corners_left, stripped_has_free, stripped_twice}
 use Rattle.ideal_tri.proofs.Drawings.Round.{nonperipheral_criterion}
 use Rattle.ideal_tri.proofs.laws.corner_laws.Goals as goal
 

@@ -3,7 +3,8 @@ use Rattle.ideal_tri.proofs.Strands.{corner_sum}
 use Rattle.ideal_tri.proofs.Crossings.{drawing_counts}
 use Rattle.ideal_tri.proofs.Drawings.States.{setting}
 use Rattle.ideal_tri.proofs.Drawings.Words.{drawing_walks, drawing_reduced}
-use Rattle.ideal_tri.proofs.Drawings.Draw.{draw_is_drawing, draw_starts, draw_rises, draw_only, drawings_alike, drawing_none}
+use Rattle.ideal_tri.proofs.Drawings.Draw.{draw_is_drawing, draw_starts, draw_rises, draw_only, drawings_alike}
+use Rattle.ideal_tri.proofs.Drawings.Draw.{drawing_none}
 use Rattle.ideal_tri.proofs.laws.drawing_laws.Goals as goal
 
 pub returns : goal.returns

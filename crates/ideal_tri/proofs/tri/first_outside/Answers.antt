@@ -10,4 +10,5 @@ loop-x-preserved c =
     let n : c.new.result ≡ x = c.new.ensures ∙ same in
     let e : edge_of c.new.result ≡ edge_of x = ap edge_of n in
     let i : c.from.result < c.edge_count-edges.result = c.if-from-edges.false in
-    All-more (λ x. edge_of x < c.edge_count-edges.result) c.as_flattened-x-items.result.now c.loop-x.x-index (pos 0) c.loop-x-test.true c.loop-x.invariant (omega arith)
+    All-more (λ x. edge_of x < c.edge_count-edges.result) c.as_flattened-x-items.result.now c.loop-x.x-index (pos 0)
+    c.loop-x-test.true c.loop-x.invariant (omega arith)

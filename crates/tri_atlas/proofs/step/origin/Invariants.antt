@@ -1,5 +1,5 @@
 use Rattle.std.proofs.Common.{◌≡◌, drop}
-use Rattle.tri_atlas.specs.Moves.{origin_of, origin_from}
+use Rattle.ideal_tri.specs.Relabellings.{origin_of, origin_from}
 use Rattle.tri_atlas.proofs.step.origin.Given as goal
 
 abbrev pub invariant-loop-k : goal.invariant-loop-k

@@ -1,5 +1,5 @@
 use Rattle.std.proofs.Common.{ℕ, List, ◌++◌, length, drop, replicate, sym, subst}
-use Rattle.edge_coords.specs.declared.coords.TheConstants.{EDGES}
+use Rattle.ideal_tri.specs.declared.tri.TheConstants.{EDGES}
 use Rattle.edge_coords.specs.inside.LaidOut.{IsLaidOut}
 use Rattle.edge_coords.proofs.Kept.{laid_out}
 use Rattle.edge_coords.proofs.coords.Coords.keep.Goals as goal

@@ -25,11 +25,12 @@ returns-else-fails-clause-later c = λ other. grind (arith, text_keys)
 
 pub returns-else-fails-clause-fails : goal.returns-else-fails-clause-fails
 returns-else-fails-clause-fails c =
-    let unlisted : list_any (λ k. nat_eq k c.saturating_add-self.result) c.args.self.now.fails.items ≡ false = search rules in
+    let unlisted : list_any (λ k. nat_eq k c.saturating_add-self.result) c.args.self.now.fails.items ≡ false =
+    search rules in
     (λ e. cc, λ listed. not_both _ listed.0 unlisted)
 
 pub returns-else-fails-clause-others : goal.returns-else-fails-clause-others
 returns-else-fails-clause-others c = λ other _. grind (arith, text_keys)
 
-pub returns-else-fails-clause-unraised : goal.returns-else-fails-clause-unraised
-returns-else-fails-clause-unraised c = λ _ other. grind (arith, text_keys)
+pub returns-else-fails-clause-uncounted : goal.returns-else-fails-clause-uncounted
+returns-else-fails-clause-uncounted c = λ other. grind (arith, text_keys)

@@ -2,7 +2,8 @@ use Rattle.std.proofs.Common.{rules, ◌≡◌, inl, inr, refl}
 use Rattle.flip_io.specs.Held.{IsListed}
 use Rattle.flip_io.specs.Sure.{room_of}
 use Rattle.flip_io.proofs.boxed.VecSinkSink.write.Goals as goal
-use Rattle.flip_io.proofs.boxed.VecSinkSink.write.Goals.{then-fails-via-then-fails, then-fails-via-else-fails+then-room-eq0}
+use Rattle.flip_io.proofs.boxed.VecSinkSink.write.Goals.{then-fails-via-then-fails}
+use Rattle.flip_io.proofs.boxed.VecSinkSink.write.Goals.{then-fails-via-else-fails+then-room-eq0}
 
 pub returns-then-fails-clause-fails : goal.returns-then-fails-clause-fails
 returns-then-fails-clause-fails c = (

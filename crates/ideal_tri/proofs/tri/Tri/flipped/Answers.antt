@@ -2,13 +2,14 @@ use Rattle.std.proofs.Common.{◌≡◌, ◌<◌, ◌*◌, ◌∙◌, ap, [], �
 use Rattle.ideal_tri.specs.Labels.{inverse}
 use Rattle.ideal_tri.specs.Triangulations.{triangle_of, next, previous, IsLabel}
 use Rattle.ideal_tri.specs.Flips.{IsFlippable}
-use Rattle.ideal_tri.specs.Places.{with_places}
+use Rattle.ideal_tri.specs.inside.Places.{with_places}
 use Rattle.ideal_tri.proofs.FlippedLayout.{HoldFlip, first_of, second_of, fields_read}
 use Rattle.ideal_tri.proofs.tri.Tri.flipped.Goals as goal
 
 -- the fields that are written hold the flip
 written : (c : goal.After-write_places-2)
-    → HoldFlip c.self.inside.count c.self.inside.sides c.args.e c.place.result.0 c.place-2.result.0 (c.args.e ∷ (c.next-d.result ∷ (c.next-a.result ∷ [])))
+    → HoldFlip c.self.inside.count c.self.inside.sides c.args.e c.place.result.0 c.place-2.result.0
+    (c.args.e ∷ (c.next-d.result ∷ (c.next-a.result ∷ [])))
     (c.inverse-back.result ∷ (c.next-b.result ∷ (c.next-c.result ∷ []))) c.write_places-2.new.place
 written c =
     let ts : List (List ℤ) = take c.self.inside.count c.self.inside.sides in
@@ -27,16 +28,21 @@ written c =
     let label : IsLabel ts c.args.e = rw c.self.view_is c.requires.label in
     let flippable : IsFlippable ts c.args.e = rw c.self.view_is c.requires.flippable in
     let first : ◌≡◌ {A = List ℤ} (c.args.e ∷ (c.next-d.result ∷ (c.next-a.result ∷ []))) (first_of ts c.args.e) =
-    ap (λ (z : ℤ). c.args.e ∷ (z ∷ (c.next-a.result ∷ []))) d_is ∙ ap (λ (z : ℤ). c.args.e ∷ (previous ts (inverse c.args.e) ∷ (z ∷ []))) a in
-    let second : ◌≡◌ {A = List ℤ} (c.inverse-back.result ∷ (c.next-b.result ∷ (c.next-c.result ∷ []))) (second_of ts c.args.e) =
-    ap (λ (z : ℤ). z ∷ (c.next-b.result ∷ (c.next-c.result ∷ []))) back ∙ ap (λ (z : ℤ). inverse c.args.e ∷ (z ∷ (c.next-c.result ∷ []))) b_is
+    ap (λ (z : ℤ). c.args.e ∷ (z ∷ (c.next-a.result ∷ []))) d_is
+    ∙ ap (λ (z : ℤ). c.args.e ∷ (previous ts (inverse c.args.e) ∷ (z ∷ []))) a in
+    let second : ◌≡◌ {A = List ℤ} (c.inverse-back.result ∷ (c.next-b.result ∷ (c.next-c.result ∷ [])))
+    (second_of ts c.args.e) =
+    ap (λ (z : ℤ). z ∷ (c.next-b.result ∷ (c.next-c.result ∷ []))) back
+    ∙ ap (λ (z : ℤ). inverse c.args.e ∷ (z ∷ (c.next-c.result ∷ []))) b_is
     ∙ ap (λ (z : ℤ). inverse c.args.e ∷ (previous ts c.args.e ∷ (z ∷ []))) c_is in
     fields_read c.self.inside.count c.self.inside.sides c.self.inside.place c.args.e c.place.result.0 c.place-2.result.0
-    (c.args.e ∷ (c.next-d.result ∷ (c.next-a.result ∷ []))) (c.inverse-back.result ∷ (c.next-b.result ∷ (c.next-c.result ∷ [])))
+    (c.args.e ∷ (c.next-d.result ∷ (c.next-a.result ∷ [])))
+    (c.inverse-back.result ∷ (c.next-b.result ∷ (c.next-c.result ∷ [])))
     c.write_places-2.new.place c.self.invariant label flippable s (t ∙ ap (triangle_of ts) back) s_in t_in first second
     (c.write_places-2.ensures
     ∙ ap
-    (λ (z : List ℕ). with_places z (3 * c.place-2.result.0) (c.inverse-back.result ∷ (c.next-b.result ∷ (c.next-c.result ∷ []))))
+    (λ (z : List ℕ). with_places z (3 * c.place-2.result.0)
+    (c.inverse-back.result ∷ (c.next-b.result ∷ (c.next-c.result ∷ []))))
     c.write_places.ensures)
 
 pub invariant_of-result : goal.invariant_of-result

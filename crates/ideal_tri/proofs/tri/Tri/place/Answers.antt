@@ -14,7 +14,9 @@ here : (c : goal.After-from-k) → IsRead c.args.self.now c.args.x c.from-k.resu
 here c =
     let ts : List (List ℤ) = take c.self.inside.count c.self.inside.sides in
     let label : IsLabel ts c.args.x = rw c.self.view_is c.requires in
-    rw (← c.self.view_is) (read ts c.self.inside.place c.args.x c.key.result c.from-k.result c.self.invariant.glued label c.key.ensures.key c.from-k.ensures)
+    rw (← c.self.view_is)
+    (read ts c.self.inside.place c.args.x c.key.result c.from-k.result c.self.invariant.glued label c.key.ensures.key
+    c.from-k.ensures)
 
 pub returns-clause-triangle : goal.returns-clause-triangle
 returns-clause-triangle c = (here c).triangle

@@ -6,4 +6,5 @@ pub returns-clause-labels : goal.returns-clause-labels
 returns-clause-labels c =
     let ts : List (List ℤ) = take c.self.inside.count c.self.inside.sides in
     let within : c.args.t < length ts = rw c.self.view_is c.requires in
-    rw (← c.self.view_is) (row_labels c.self.inside.count c.self.inside.sides c.self.inside.place c.args.t c.self.invariant within)
+    rw (← c.self.view_is)
+    (row_labels c.self.inside.count c.self.inside.sides c.self.inside.place c.args.t c.self.invariant within)

@@ -11,11 +11,16 @@ rank-requires c = omega (arith, c.least_corner-first.ensures.label, c.least_corn
 
 pub first_corners-requires-clause-count : goal.first_corners-requires-clause-count
 first_corners-requires-clause-count c =
-    omega
-    (arith, c.rank.ensures, rank_below c.least_corner-first.result (edge_count c.args.self.now) c.least_corner-first.ensures.label)
+    omega (
+      arith,
+      c.rank.ensures,
+      rank_below c.least_corner-first.result (edge_count c.args.self.now)
+          c.least_corner-first.ensures.label,
+    )
 
 pub returns : goal.returns
 returns c =
     c.first_corners.ensures
     ∙ ap (firsts c.args.self.now) (c.rank.ensures ∙ ap rank c.least_corner-first.ensures.least)
-    ∙ sym (vertex_of-is c.args.self.now (triangle_laws c.args.self.now c.least_corner-first.ensures.sound) c.args.x c.requires)
+    ∙ sym (vertex_of-is c.args.self.now (triangle_laws c.args.self.now c.least_corner-first.ensures.sound) c.args.x
+    c.requires)

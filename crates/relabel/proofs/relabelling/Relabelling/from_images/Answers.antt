@@ -9,10 +9,13 @@ pub loop-place-preserved : goal.loop-place-preserved
 loop-place-preserved c =
     let same : c.new.result ≡ get_or c.args.list.now c.loop-place.place (pos 0) = search rules in
     ap (set c.loop-place.images c.loop-place.place) same
-    ∙ slots_next c.args.list.now c.loop-place.images c.loop-place.place c.loop-place-test.true c.requires.small c.loop-place.invariant
+    ∙ slots_next c.args.list.now c.loop-place.images c.loop-place.place c.loop-place-test.true c.requires.small
+    c.loop-place.invariant
 
 pub invariant_of-result : goal.invariant_of-result
-invariant_of-result c = laid_out c.args.list.now c.loop-place.images c.loop-place.place c.requires.small c.requires.bijection (omega arith) c.loop-place.invariant
+invariant_of-result c =
+    laid_out c.args.list.now c.loop-place.images c.loop-place.place c.requires.small c.requires.bijection
+    (omega arith) c.loop-place.invariant
 
 pub returns : goal.returns
 returns c = view_at_end c.args.list.now c.loop-place.images c.loop-place.place (omega arith) c.loop-place.invariant

@@ -1,5 +1,5 @@
 use Rattle.std.proofs.Common.{◌≡◌, ◌++◌, ◌-◌, take}
-use Rattle.relabel.specs.LaidOut.{spare_slots}
+use Rattle.relabel.specs.inside.LaidOut.{spare_slots}
 use Rattle.relabel.proofs.relabelling.Relabelling.from_images.Given as goal
 
 abbrev pub invariant-loop-place : goal.invariant-loop-place

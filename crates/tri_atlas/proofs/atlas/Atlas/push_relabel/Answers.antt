@@ -1,8 +1,8 @@
-use Rattle.std.proofs.Common.{◌≡◌, ◌∙◌, ◌++◌, ◌∷◌, [], ℕ, sym, ap, subst, take, map, refl}
+use Rattle.std.proofs.Common.{arith, ◌≡◌, ◌∙◌, ◌++◌, ◌∷◌, [], ℕ, sym, ap, subst, take, map, refl}
 use Rattle.ideal_tri.specs.Triangulations.{edge_count}
 use Rattle.tri_atlas.specs.Moves.{relabel}
 use Rattle.tri_atlas.specs.Arena.{Arena, IsArena, triangulation, relabel_entry, images_kept}
-use Rattle.tri_atlas.specs.Fields.{entry_of}
+use Rattle.tri_atlas.specs.inside.Fields.{entry_of}
 use Rattle.tri_atlas.proofs.Arenas.{IsArena-relabel, grows_by, no_more, entry_equal}
 use Rattle.tri_atlas.proofs.Kept.{moves_pushed}
 use Rattle.tri_atlas.proofs.atlas.Atlas.push_relabel.Goals as goal
@@ -17,13 +17,17 @@ moves_now c =
     let edges : c.self.inside.edges ≡ edge_count (triangulation c.args.self.now c.args.from) =
     c.self.invariant.edges ∙ ap (λ (a : Arena). edge_count (triangulation a 0)) c.self.view_is
     ∙ sym ((arena_now c).edges c.args.from c.requires.from) in
-    moves_pushed c.self.inside.edges _ _ _ _ _ c.push_reserved.ensures.items (ap (λ (a : Arena). a.moves) c.self.view_is)
+    moves_pushed c.self.inside.edges _ _ _ _ _ c.push_reserved.ensures.items
+    (ap (λ (a : Arena). a.moves) c.self.view_is)
     (entry_equal _ _ _ _ _ _ refl refl (ap (λ (n : ℕ). relabel (take n c.args.images)) edges))
 
 pub invariant_of-self : goal.invariant_of-self
 invariant_of-self c = record {
-  arena = IsArena-relabel c.args.self.now _ c.args.from c.args.to (images_kept c.args.self.now c.args.from c.args.images) (arena_now c)
-      c.requires.from c.requires.to c.requires.carries (ap (λ (a : Arena). a.triangulations) c.self.view_is) (moves_now c);
+  arena = IsArena-relabel c.args.self.now _ c.args.from c.args.to
+      (images_kept c.args.self.now c.args.from c.args.images) (arena_now c)
+      c.requires.from c.requires.to c.requires.carries (ap (λ (a : Arena). a.triangulations) c.self.view_is)
+      (moves_now c);
+  room = omega arith;
   edges = c.self.invariant.edges;
 }
 

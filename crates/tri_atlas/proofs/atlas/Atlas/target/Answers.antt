@@ -7,9 +7,11 @@ use Rattle.tri_atlas.proofs.atlas.Atlas.target.Goals as goal
 pub returns-then-m-clause-here : goal.returns-then-m-clause-here
 returns-then-m-clause-here c =
     let value : c.index-kept.result.now.source ≡ target_of c.args.self.now c.args.m = grind (arith, common_steps) in
-    subst (IsTriIn c.args.self.now) (sym value) (ends_in c.args.self.now c.args.m (subst IsArena c.self.view_is c.self.invariant.arena) c.requires).1
+    subst (IsTriIn c.args.self.now) (sym value)
+    (ends_in c.args.self.now c.args.m (subst IsArena c.self.view_is c.self.invariant.arena) c.requires).1
 
 pub returns-else-m-clause-here : goal.returns-else-m-clause-here
 returns-else-m-clause-here c =
     let value : c.index-kept.result.now.target ≡ target_of c.args.self.now c.args.m = grind (arith, common_steps) in
-    subst (IsTriIn c.args.self.now) (sym value) (ends_in c.args.self.now c.args.m (subst IsArena c.self.view_is c.self.invariant.arena) c.requires).1
+    subst (IsTriIn c.args.self.now) (sym value)
+    (ends_in c.args.self.now c.args.m (subst IsArena c.self.view_is c.self.invariant.arena) c.requires).1

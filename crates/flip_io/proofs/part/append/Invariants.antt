@@ -1,0 +1,9 @@
+use Rattle.std.proofs.Common.{◌≡◌, ◌+◌, ◌++◌, take, vec_capacity, vec_len}
+use Rattle.flip_io.proofs.part.append.Given as goal
+
+abbrev pub invariant-loop-byte : goal.invariant-loop-byte
+invariant-loop-byte l = record {
+  items : l.buffer.items ≡ l.fn.buffer.items ++ take l.byte-index l.bytes;
+  len : vec_len l.buffer ≡ vec_len l.fn.buffer + l.byte-index;
+  capacity : vec_capacity l.buffer ≡ vec_capacity l.fn.buffer;
+}

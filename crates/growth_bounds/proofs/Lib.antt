@@ -1,0 +1,4 @@
+pub mod Products
+pub mod Ratios
+pub mod Rows
+pub mod Bounding

@@ -1,0 +1,10 @@
+pub mod Sums
+pub mod Powers
+pub mod Places
+pub mod Counted
+pub mod BitTables
+pub mod Signs
+pub mod Exponents
+pub mod SumLaws
+pub mod Growing
+pub mod ColumnSums

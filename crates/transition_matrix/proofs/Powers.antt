@@ -1,0 +1,58 @@
+-- Powers of a matrix.
+use Rattle.std.proofs.Common.{◌≡◌, ◌≢◌, ◌<◌, ◌≤◌, ◌+◌, ◌*◌, ◌⊎◌, inl, inr, ℕ, zero, suc, List, length, true, false}
+use Rattle.std.proofs.Common.{Bool, refl, sym, ◌∙◌, ap, subst, arith}
+use Rattle.std.specs.Prelude.{if◌then◌else◌, nat_eq}
+use Rattle.std.proofs.lemmas.Bool.{cases_eq, eq-eqb, ne_eqb}
+use Rattle.transition_matrix.specs.Matrices.{Square, entry, sum_below, power, IsPositivePower}
+use Rattle.transition_matrix.specs.MatrixLaws.{RespectsClasses}
+use Rattle.transition_matrix.proofs.Sums.{sum_below-one, positive_term, positive_left, positive_right}
+
+-- ---- the first power
+
+abbrev pub unit : ℕ → ℕ → ℕ
+unit i j = if nat_eq i j then 1 else 0
+
+pub unit_same : (i : ℕ) → unit i i ≡ 1
+unit_same i = ap (λ (b : Bool). if b then 1 else 0) (eq-eqb i i refl)
+
+pub unit_other : (i j : ℕ) → i ≢ j → unit i j ≡ 0
+unit_other i j apart = ap (λ (b : Bool). if b then 1 else 0) (ne_eqb i j apart)
+
+pub first_power : (m : Square) (i j : ℕ) → i < m.size → power m 1 i j ≡ entry m i j
+first_power m i j within =
+    let f : ℕ → ℕ = λ l. unit i l * entry m l j in
+    let none : (l : ℕ) → l < m.size → l ≢ i → f l ≡ 0
+    = λ l h apart. ap (λ (n : ℕ). n * entry m l j) (unit_other i l (λ e. apart (sym e))) ∙ omega arith in
+    let one : f i ≡ entry m i j = ap (λ (n : ℕ). n * entry m i j) (unit_same i) ∙ omega arith in
+    sum_below-one m.size i f within none ∙ one
+
+-- ---- classes
+
+-- going n times
+abbrev times : (ℕ → ℕ) → ℕ → ℕ → ℕ
+times goes zero c = c
+times goes (suc n) c = times goes n (goes c)
+
+equal_unit : (i j : ℕ) → 0 < unit i j → i ≡ j
+equal_unit i j some = elim (cases_eq i j) [
+  | inl e ↦ e
+  | inr apart ↦ absurd (let none : unit i j
+      ≡ 0 = unit_other i j apart in omega arith)
+]
+
+-- a positive entry of a power stands in the row's class that the column's class goes to
+pub power_respects : (m : Square) (class goes : ℕ → ℕ) (k i j : ℕ) → RespectsClasses m class goes
+    → i < m.size → j < m.size → 0 < power m k i j → class i ≡ times goes k (class j)
+power_respects m class goes zero i j respects row column some = ap class (equal_unit i j some)
+power_respects m class goes (suc k) i j respects row column some =
+    let found = positive_term m.size (λ l. power m k i l * entry m l j) some in
+    let l : ℕ = found.0 in
+    let before = power_respects m class goes k i l respects row found.1 (positive_left _ _ found.2) in
+    let step = respects.entries l j found.1 column (positive_right _ _ found.2) in
+    before ∙ ap (λ (c : ℕ). times goes k c) step
+
+pub no_positive_power : (m : Square) (class goes : ℕ → ℕ) (i j k : ℕ) → RespectsClasses m class goes
+    → i < m.size → j < m.size → class i ≢ class j → 0 < k → ¬ IsPositivePower m k
+no_positive_power m class goes i j k respects row other apart some positive =
+    apart (power_respects m class goes k i j respects row other (positive i j row other)
+    ∙ sym (power_respects m class goes k j j respects other other (positive j j other other)))

@@ -1,0 +1,4 @@
+pub mod Matrices
+pub mod Bounds
+pub mod MatrixLaws
+pub mod inside
