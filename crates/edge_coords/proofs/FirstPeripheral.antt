@@ -1,6 +1,6 @@
 -- The first label at whose vertex all corners have strands lies at the least such vertex: vertices are numbered in the
 -- order of their least corners, and all corners of a vertex have the same least count.
-use Rattle.std.proofs.Common.{◌≡◌, ◌<◌, ◌≤◌, ◌⊎◌, inl, inr, ℕ, ℤ, pos, negsuc, List, sym, ◌∙◌, ap, subst, arith, refl}
+use Rattle.std.proofs.Common.{◌≡◌, ◌≢◌, ◌<◌, ◌≤◌, inl, inr, ℕ, ℤ, pos, negsuc, List, sym, ◌∙◌, ap, subst, arith, refl}
 use Rattle.std.proofs.lemmas.Bool.{cases_lt}
 use Rattle.ideal_tri.specs.Labels.{edge_of}
 use Rattle.ideal_tri.specs.Triangulations.{IsLabel, edge_count}
@@ -19,12 +19,6 @@ free_corners triples w laws none x l =
     (y, same, least ∙ none x l)
 
 -- ---- the order of labels
-
-rank-injective : (x y : ℤ) → rank x ≡ rank y → x ≡ y
-rank-injective (pos m) (pos n) e = ap pos (omega arith)
-rank-injective (pos m) (negsuc n) e = absurd (omega arith)
-rank-injective (negsuc m) (pos n) e = absurd (omega arith)
-rank-injective (negsuc m) (negsuc n) e = ap negsuc (omega arith)
 
 edge_within : (x y : ℤ) (n : ℕ) → rank y ≤ rank x → edge_of x < n → edge_of y < n
 edge_within (pos a) (pos b) n h l = omega arith
@@ -45,17 +39,10 @@ module _ (triples : List (List ℤ)) (w : List ℕ) (corners : CornerLaws triple
 
   -- vertices in the order of their least corners
   least_corners_ordered : (x y : ℤ) → IsLabel triples x → IsLabel triples y → vertex_of triples y < vertex_of triples x
-      → rank (least_corner triples y) < rank (least_corner triples x)
-  least_corners_ordered x y l m low = elim (cases_lt (rank (least_corner triples y)) (rank (least_corner triples x))) [
-        inl h ↦ h
-      | inr h ↦ elim (cases_lt (rank (least_corner triples x)) (rank (least_corner triples y))) [
-            inl less ↦ (let above : vertex_of triples x < vertex_of triples y = vertices.ordered x y l m less in absurd (omega arith))
-          | inr more ↦
-              (let one : least_corner triples x ≡ least_corner triples y = rank-injective _ _ (omega arith) in
-              let same : vertex_of triples x ≡ vertex_of triples y =
-                  vertex_of-least_corner x l ∙ ap (vertex_of triples) one ∙ sym (vertex_of-least_corner y m) in
-              absurd (omega arith))
-          ]
+      → rank (least_corner triples y) ≤ rank (least_corner triples x)
+  least_corners_ordered x y l m low = elim (cases_lt (rank (least_corner triples x)) (rank (least_corner triples y))) [
+        inl less ↦ (let above : vertex_of triples x < vertex_of triples y = vertices.ordered x y l m less in absurd (omega arith))
+      | inr h ↦ h
       ]
 
   positive : (v : ℕ) → (h : IsPeripheralAt triples w v) → 0 < least_count triples w (least_corner triples h.corner)
@@ -68,7 +55,7 @@ module _ (triples : List (List ℤ)) (w : List ℕ) (corners : CornerLaws triple
 
   -- it is that of the first label at whose vertex all corners have strands
   pub least_peripheral : (x : ℤ) → IsLabel triples x → 0 < least_count triples w x
-      → ((y : ℤ) → IsLabel triples y → rank y < rank x → least_count triples w y ≡ 0)
+      → ((y : ℤ) → IsLabel triples y → y ≢ x → rank y ≤ rank x → least_count triples w y ≡ 0)
       → IsLeastPeripheral triples w (vertex_of triples x)
   least_peripheral x l here first = record {
     here = record {
@@ -78,11 +65,14 @@ module _ (triples : List (List ℤ)) (w : List ℕ) (corners : CornerLaws triple
       all = λ y same. (let least : least_count triples w x ≤ corner_count triples w y = corners.least w x y l same in omega arith);
     };
     before = λ u low h.
-        (let order : rank (least_corner triples h.corner) < rank (least_corner triples x) =
+        (let order : rank (least_corner triples h.corner) ≤ rank (least_corner triples x) =
             least_corners_ordered x h.corner l h.label (subst (λ (v : ℕ). v < vertex_of triples x) (sym h.vertex) low) in
         let least : rank (least_corner triples x) ≤ rank x = vertices.least x x l (record { steps = 0; reached = refl }) in
+        let other : least_corner triples h.corner ≢ x = λ e.
+            (let one : vertex_of triples x ≡ u = ap (vertex_of triples) (sym e) ∙ sym (vertex_of-least_corner h.corner h.label) ∙ h.vertex in
+            omega arith) in
         let none : least_count triples w (least_corner triples h.corner) ≡ 0 =
-            first (least_corner triples h.corner) (least_label h.corner h.label) (omega arith) in
+            first (least_corner triples h.corner) (least_label h.corner h.label) other (omega arith) in
         let some : 0 < least_count triples w (least_corner triples h.corner) = positive u h in
         omega arith);
   }

@@ -4,13 +4,13 @@ use Rattle.std.proofs.Common.{◌≡◌, ◌<◌, ℕ, ℤ, pos, List, length, s
 use Rattle.ideal_tri.specs.Labels.{inverse, edge_of}
 use Rattle.ideal_tri.specs.Triangulations.{IsTriangulation, IsLabel, edge_count, next, previous}
 use Rattle.ideal_tri.specs.Vectors.{IsMulticurve}
+use Rattle.ideal_tri.specs.LabelLaws.{LabelLaws}
 use Rattle.ideal_tri.specs.RelabellingLaws.{RelabellingLaws}
 use Rattle.ideal_tri.specs.SurfaceLaws.{TriangleLaws}
 use Rattle.ideal_tri.specs.Relabellings.{image_of, IsRelabelling}
 use Rattle.tri_atlas.specs.Moves.{Move, flip, unflip, relabel, IsFlip, IsMove}
 use Rattle.tri_atlas.specs.VectorLaws.{VectorLaws}
 use Rattle.edge_coords.specs.inside.Steps.{IsFlipOf, IsRelabellingOf, IsStepOf}
-use Rattle.edge_coords.proofs.Turns.{inverse_label}
 
 -- the labels of a flip are labels where it is made
 record AreSides (triples : List (List ℤ)) (e a b c d : ℤ) : Type 0 where
@@ -20,11 +20,11 @@ record AreSides (triples : List (List ℤ)) (e a b c d : ℤ) : Type 0 where
   at_c : IsLabel triples c
   at_d : IsLabel triples d
 
-sides : (before target : List (List ℤ)) (e a b c d : ℤ) → TriangleLaws before → IsFlip before target e a b c d
+sides : (before target : List (List ℤ)) (e a b c d : ℤ) → LabelLaws → TriangleLaws before → IsFlip before target e a b c d
     → AreSides before e a b c d
-sides before target e a b c d triangles h =
+sides before target e a b c d labels triangles h =
     let there : IsLabel before (next before e) = triangles.label e h.label in
-    let back : IsLabel before (inverse e) = inverse_label before e h.label in
+    let back : IsLabel before (inverse e) = labels.label before e h.label in
     let across : IsLabel before (next before (inverse e)) = triangles.label (inverse e) back in
     record {
       at_e = h.label;
@@ -38,17 +38,17 @@ in_vector : (triples : List (List ℤ)) (w : List ℕ) (x : ℤ) → length w �
     → edge_of x < length w
 in_vector triples w x many l = subst (λ (n : ℕ). edge_of x < n) (sym many) l
 
-module _ (laws : VectorLaws) (relabellings : RelabellingLaws) (before target : List (List ℤ)) (w : List ℕ) (sound : IsTriangulation before)
-    (other : IsTriangulation target) (multicurve : IsMulticurve before w) (edges : edge_count target ≡ edge_count before) where
+module _ (laws : VectorLaws) (labels : LabelLaws) (relabellings : RelabellingLaws) (before target : List (List ℤ))
+    (w : List ℕ) (sound : IsTriangulation before) (other : IsTriangulation target) (multicurve : IsMulticurve before w) (edges : edge_count target ≡ edge_count before) where
   there : (e a b c d : ℤ) → TriangleLaws before → IsFlip before target e a b c d → IsFlipOf w e a b c d
   there e a b c d triangles h =
-      let labels : AreSides before e a b c d = sides before target e a b c d triangles h in
+      let here : AreSides before e a b c d = sides before target e a b c d labels triangles h in
       record {
-        e_in = in_vector before w e multicurve.one_per_edge labels.at_e;
-        a_in = in_vector before w a multicurve.one_per_edge labels.at_a;
-        b_in = in_vector before w b multicurve.one_per_edge labels.at_b;
-        c_in = in_vector before w c multicurve.one_per_edge labels.at_c;
-        d_in = in_vector before w d multicurve.one_per_edge labels.at_d;
+        e_in = in_vector before w e multicurve.one_per_edge here.at_e;
+        a_in = in_vector before w a multicurve.one_per_edge here.at_a;
+        b_in = in_vector before w b multicurve.one_per_edge here.at_b;
+        c_in = in_vector before w c multicurve.one_per_edge here.at_c;
+        d_in = in_vector before w d multicurve.one_per_edge here.at_d;
         enough = laws.numbers.enough before target e a b c d w sound h multicurve;
       }
 
@@ -57,13 +57,13 @@ module _ (laws : VectorLaws) (relabellings : RelabellingLaws) (before target : L
 
   back : (e a b c d : ℤ) → TriangleLaws target → IsFlip target before e a b c d → IsFlipOf w e a b c d
   back e a b c d triangles h =
-      let labels : AreSides target e a b c d = sides target before e a b c d triangles h in
+      let here : AreSides target e a b c d = sides target before e a b c d labels triangles h in
       record {
-        e_in = in_vector target w e many labels.at_e;
-        a_in = in_vector target w a many labels.at_a;
-        b_in = in_vector target w b many labels.at_b;
-        c_in = in_vector target w c many labels.at_c;
-        d_in = in_vector target w d many labels.at_d;
+        e_in = in_vector target w e many here.at_e;
+        a_in = in_vector target w a many here.at_a;
+        b_in = in_vector target w b many here.at_b;
+        c_in = in_vector target w c many here.at_c;
+        d_in = in_vector target w d many here.at_d;
         enough = laws.numbers.enough_back target before e a b c d w other h multicurve;
       }
 

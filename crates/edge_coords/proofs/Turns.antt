@@ -1,38 +1,48 @@
--- Turning round a vertex, one corner after another, and the least count on the way.
-use Rattle.std.proofs.Common.{◌≡◌, ◌+◌, ◌<◌, ◌≤◌, ℕ, zero, suc, ℤ, pos, negsuc, List, min, sym, ◌∙◌, ap, refl, arith, add-one}
-use Rattle.ideal_tri.specs.Labels.{inverse}
-use Rattle.ideal_tri.specs.Triangulations.{IsLabel}
+-- The least count at a vertex, from one corner to the next. It is the lesser of the least count among the corners that were
+-- passed and that among the corners still to come; the corner that one stands at may count on both sides.
+use Rattle.std.proofs.Common.{◌≡◌, ◌<◌, ◌≤◌, ◌-◌, ◌+◌, ◌*◌, ℕ, zero, suc, ℤ, List, min, sym, ◌∙◌, ap, arith}
+use Rattle.ideal_tri.specs.Triangulations.{edge_count}
 use Rattle.ideal_tri.specs.Vectors.{corner_count}
-use Rattle.ideal_tri.specs.Vertices.{corner_step, corner_after}
-use Rattle.ideal_tri.specs.PeripheralParts.{least_count_within}
+use Rattle.ideal_tri.specs.Vertices.{corner_step}
+use Rattle.ideal_tri.specs.PeripheralParts.{least_count, least_count_within}
 
-pub inverse_label : (triples : List (List ℤ)) (x : ℤ) → IsLabel triples x → IsLabel triples (inverse x)
-inverse_label triples (pos n) h = h
-inverse_label triples (negsuc n) h = h
+least_count-le : (triples : List (List ℤ)) (w : List ℕ) (n : ℕ) (x : ℤ) → least_count_within triples w n x ≤ corner_count triples w x
+least_count-le triples w zero x = omega arith
+least_count-le triples w (suc n) x = omega arith
 
-min_assoc : (a b c : ℕ) → min a (min b c) ≡ min (min a b) c
-min_assoc a b c = omega arith
+-- `least` is the least count from the corner x on to `corner`, which is i steps on
+pub record IsLeastSoFar (triples : List (List ℤ)) (w : List ℕ) (x corner : ℤ) (least i : ℕ) : Type 0 where
+  pub passed : least ≤ corner_count triples w corner
+  pub to_come : least_count triples w x ≡ min least (least_count_within triples w (2 * edge_count triples - i) corner)
 
-corner_after-suc : (triples : List (List ℤ)) (n : ℕ) (x : ℤ)
-    → corner_after triples (suc n) x ≡ corner_step triples (corner_after triples n x)
-corner_after-suc triples zero x = refl
-corner_after-suc triples (suc n) x = corner_after-suc triples n (corner_step triples x)
+module _ (triples : List (List ℤ)) (w : List ℕ) (x : ℤ) where
+  pub least_none : (least : ℕ) → least ≡ corner_count triples w x → IsLeastSoFar triples w x x least 0
+  least_none least is = record {
+    passed = omega arith;
+    to_come =
+        (let all : 2 * edge_count triples - 0 ≡ 2 * edge_count triples = omega arith in
+        omega (arith, least_count-le triples w (2 * edge_count triples) x)
+        ∙ ap (λ (n : ℕ). min least (least_count_within triples w n x)) (sym all));
+  }
 
-pub corner_more : (triples : List (List ℤ)) (n : ℕ) (x : ℤ)
-    → corner_after triples (n + 1) x ≡ corner_step triples (corner_after triples n x)
-corner_more triples n x = ap (λ (k : ℕ). corner_after triples k x) (add-one n) ∙ corner_after-suc triples n x
+  pub least_more : (corner next : ℤ) (least count less i : ℕ) → i < 2 * edge_count triples → next ≡ corner_step triples corner
+      → count ≡ corner_count triples w next → less ≡ min least count → IsLeastSoFar triples w x corner least i
+      → IsLeastSoFar triples w x next less (i + 1)
+  least_more corner next least count less i low turned counted is h = record {
+    passed = omega arith;
+    to_come =
+        (let n : ℕ = 2 * edge_count triples - (i + 1) in
+        let left : 2 * edge_count triples - i ≡ suc n = omega arith in
+        let rest : least_count_within triples w n (corner_step triples corner) ≡ least_count_within triples w n next =
+            ap (least_count_within triples w n) (sym turned) in
+        let others : least_count_within triples w n next ≤ corner_count triples w next = least_count-le triples w n next in
+        h.to_come ∙ ap (λ (m : ℕ). min least (least_count_within triples w m corner)) left ∙ omega (arith, h.passed));
+  }
 
-least_count-suc : (triples : List (List ℤ)) (w : List ℕ) (n : ℕ) (x : ℤ)
-    → least_count_within triples w (suc n) x
-    ≡ min (least_count_within triples w n x) (corner_count triples w (corner_after triples (suc n) x))
-least_count-suc triples w zero x = refl
-least_count-suc triples w (suc n) x =
-    ap (min (corner_count triples w x)) (least_count-suc triples w n (corner_step triples x))
-    ∙ min_assoc (corner_count triples w x) (least_count_within triples w n (corner_step triples x)) _
-
-pub least_count_more : (triples : List (List ℤ)) (w : List ℕ) (n : ℕ) (x : ℤ)
-    → least_count_within triples w (n + 1) x
-    ≡ min (least_count_within triples w n x) (corner_count triples w (corner_after triples (n + 1) x))
-least_count_more triples w n x =
-    ap (λ (k : ℕ). least_count_within triples w k x) (add-one n) ∙ least_count-suc triples w n x
-    ∙ ap (λ (k : ℕ). min (least_count_within triples w n x) (corner_count triples w (corner_after triples k x))) (sym (add-one n))
+  pub least_all : (corner : ℤ) (least i : ℕ) → 2 * edge_count triples ≤ i → IsLeastSoFar triples w x corner least i
+      → least ≡ least_count triples w x
+  least_all corner least i past h =
+      let left : 2 * edge_count triples - i ≡ 0 = omega arith in
+      let rest : least_count_within triples w (2 * edge_count triples - i) corner ≡ corner_count triples w corner =
+          ap (λ (n : ℕ). least_count_within triples w n corner) left in
+      omega (arith, h.passed, h.to_come)

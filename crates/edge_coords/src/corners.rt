@@ -2,7 +2,8 @@
 //!
 //! The corner named `x` lies at the head of the side `x`, between `x` and the side after it. A curve
 //! of the multicurve runs round a vertex exactly where all corners there have strands.
-ghost use Rattle.std.specs.Prelude.{◌≡◌, ◌<◌, ◌≤◌, ◌+◌, ℤ, pos, length, take, IfSome, IfNone};
+ghost use Rattle.std.specs.Prelude.{◌≡◌, ◌≢◌, ◌<◌, ◌≤◌, ◌+◌, ℤ, pos, length, take};
+ghost use Rattle.std.specs.Prelude.{IfSome, IfNone};
 ghost use Rattle.ideal_tri.specs.Labels.{inverse, edge_of};
 ghost use Rattle.ideal_tri.specs.Triangulations.{IsLabel, IsTriangulation, next, previous};
 ghost use Rattle.ideal_tri.specs.Vectors.{IsMulticurve, weight, corner_count};
@@ -13,7 +14,9 @@ ghost use Rattle.edge_coords.specs.Coordinates.{AreCoordinatesIn, AreSmall};
 ghost use Rattle.edge_coords.specs.PeripheralVertices.{IsLeastPeripheral};
 
 use crate::coords::{COORDINATE_LIMIT, Coords, weight};
-use ideal_tri::{EDGES, Label, Tri, VertexId, corner_laws, drawing_laws, surface_laws, vertex_laws};
+use ideal_tri::{
+    EDGES, Label, Tri, VertexId, corner_laws, drawing_laws, label_laws, surface_laws, vertex_laws,
+};
 use tri_atlas::Atlas;
 
 impl Coords {
@@ -93,6 +96,8 @@ fn least_count(tri: &Tri, w: &[u128], x: Label) -> u128
     requires label { IsLabel tri.now x }
     ensures { result ≡ least_count tri.now w.now x }
 {
+    // the other direction of a label is a label
+    label_laws();
     let mut corner = x;
     let mut least = corner_count(tri, w, x);
     for _ in 0..2 * tri.edges() {
@@ -126,7 +131,7 @@ fn first_peripheral(tri: &Tri, w: &[u128]) -> Option<Label>
     requires small { AreSmall w.now }
     ensures label { IfSome result (IsLabel tri.now) }
     ensures positive { IfSome result (λ x. 0 < least_count tri.now w.now x) }
-    ensures first { IfSome result (λ x. (y : ℤ) → IsLabel tri.now y → rank y < rank x
+    ensures first { IfSome result (λ x. (y : ℤ) → IsLabel tri.now y → y ≢ x → rank y ≤ rank x
         → least_count tri.now w.now y ≡ 0) }
     ensures none { IfNone result ((y : ℤ) → IsLabel tri.now y
         → least_count tri.now w.now y ≡ 0) }

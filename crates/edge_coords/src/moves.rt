@@ -22,7 +22,7 @@ ghost use Rattle.edge_coords.specs.MovedCoordinates.{IsFirstOverflow, IsOverflow
 ghost use Rattle.edge_coords.specs.inside.Steps.{IsFlipOf, IsRelabellingOf, IsStepOf};
 
 use crate::coords::{COORDINATE_LIMIT, Coords, weight};
-use ideal_tri::{EDGES, Label, relabelling_laws, surface_laws};
+use ideal_tri::{EDGES, Label, label_laws, relabelling_laws, surface_laws};
 use tri_atlas::{Atlas, MoveId, Path, Step, atlas_laws, vector_laws};
 
 /// A number of 2^126 or more, that was to stand at an edge.
@@ -217,9 +217,10 @@ fn move_law(atlas: &Atlas, m: MoveId, w: &Coords)
 {
     // what is true of every atlas
     let _ = atlas.base();
-    atlas_laws();
+    label_laws();
     surface_laws();
     relabelling_laws();
+    atlas_laws();
     vector_laws();
 }
 

@@ -1,23 +1,23 @@
-use Rattle.std.proofs.Common.{◌≡◌, ◌+◌, sym, ◌∙◌, ap, subst, ℕ, min}
+use Rattle.std.proofs.Common.{sym, ◌∙◌, ap, subst, arith}
 use Rattle.ideal_tri.specs.Labels.{inverse}
 use Rattle.ideal_tri.specs.Triangulations.{IsLabel}
-use Rattle.ideal_tri.specs.Vectors.{corner_count}
-use Rattle.ideal_tri.specs.Vertices.{corner_step, corner_after}
-use Rattle.edge_coords.proofs.Turns.{inverse_label, corner_more, least_count_more}
+use Rattle.edge_coords.proofs.Turns.{least_none, least_more}
 use Rattle.edge_coords.proofs.corners.least_count.Goals as goal
 
+pub loop-init : goal.loop-init
+loop-init c = record {
+  label = c.requires.label;
+  so_far = least_none c.args.tri.now c.args.w.now c.args.x c.corner_count-least.result c.corner_count-least.ensures;
+}
+
 pub loop-preserved : goal.loop-preserved
-loop-preserved c =
-    let turned : c.inverse-corner.result ≡ corner_after c.args.tri.now (c.loop.counter + 1) c.args.x =
-        c.inverse-corner.ensures ∙ ap inverse c.next.ensures.next
-        ∙ ap (corner_step c.args.tri.now) c.loop.invariant.corner
-        ∙ sym (corner_more c.args.tri.now c.loop.counter c.args.x) in
-    record {
-      corner = turned;
-      label = subst (IsLabel c.args.tri.now) (sym c.inverse-corner.ensures) (inverse_label c.args.tri.now c.next.result c.next.ensures.label);
-      least =
-          c.min-least.ensures
-          ∙ ap (λ (n : ℕ). min n c.corner_count.result) c.loop.invariant.least
-          ∙ ap (min _) (c.corner_count.ensures ∙ ap (corner_count c.args.tri.now c.args.w.now) turned)
-          ∙ sym (least_count_more c.args.tri.now c.args.w.now c.loop.counter c.args.x);
-    }
+loop-preserved c = record {
+  label =
+      subst (IsLabel c.args.tri.now) (sym c.inverse-corner.ensures)
+      (c.label_laws.ensures.label c.args.tri.now c.next.result c.next.ensures.label);
+  so_far =
+      least_more c.args.tri.now c.args.w.now c.args.x c.loop.corner c.inverse-corner.result c.loop.least c.corner_count.result
+      c.min-least.result c.loop.counter (omega (arith, c.loop-test.true, c.edges-end.ensures.count))
+      (c.inverse-corner.ensures ∙ ap inverse c.next.ensures.next) c.corner_count.ensures c.min-least.ensures
+      c.loop.invariant.so_far;
+}

@@ -19,7 +19,7 @@ returns-clause-step c =
     let u : ℕ = target_of arena c.args.m in
     let here : IsTriIn arena t = c.requires.coordinates.tri_in in
     let there : IsTriIn arena u = (c.atlas_laws.ensures.handles.ends arena c.args.m c.base.ensures.sound c.requires.here).1 in
-    step_of_move c.vector_laws.ensures c.relabelling_laws.ensures (triangulation arena t) (triangulation arena u) c.args.w.now.numbers
+    step_of_move c.vector_laws.ensures c.label_laws.ensures c.relabelling_laws.ensures (triangulation arena t) (triangulation arena u) c.args.w.now.numbers
     (c.base.ensures.sound.sound t here) (c.base.ensures.sound.sound u there) c.requires.coordinates.multicurve
     (c.base.ensures.sound.edges u there ∙ sym (c.base.ensures.sound.edges t here))
     (step_of arena c.args.m)
