@@ -1,9 +1,9 @@
 -- Along the moves of a path: each starts where the one before ended, so that the numbers after the first k + 1 moves are
 -- those after one more move, and the first move that cannot be made is the first flip whose new number is too large.
-use Rattle.std.proofs.Common.{◌≡◌, ◌<◌, ◌≤◌, ◌+◌, ◌⊎◌, inl, inr, ℕ, suc, ℤ, List, [], ◌∷◌, length, map, take, drop, get_or, count_by, All, refl, sym, ◌∙◌, ap, subst, arith, add-one}
+use Rattle.std.proofs.Common.{◌≡◌, ◌<◌, ◌≤◌, ◌+◌, ◌⊎◌, inl, inr, ℕ, suc, ℤ, List, [], ◌∷◌, ◌++◌, length, map, take, drop, get_or, count_by, All, refl, sym, ◌∙◌, ap, subst, arith, add-one}
 use Rattle.std.proofs.lemmas.Bool.{cases_eq}
-use Rattle.std.proofs.lemmas.List.{drop_more, drop_all, get_or-map, get_or_read, length-map, take-map}
-use Rattle.std.proofs.lemmas.List.Elements.{All-nil, All-cons}
+use Rattle.std.proofs.lemmas.List.{take_more, drop_more, drop_all, get_or-map, get_or_read, length-map, take-map}
+use Rattle.std.proofs.lemmas.List.Elements.{All-nil, All-cons, All-append}
 use Rattle.tri_atlas.specs.Moves.{Move, relabel}
 use Rattle.tri_atlas.specs.Arena.{Arena, MoveHandle, IsMoveIn, source_of, target_of, step_of}
 use Rattle.tri_atlas.specs.Paths.{Lead, is_flip}
@@ -16,10 +16,13 @@ use Rattle.edge_coords.specs.declared.moves.OverflowAt.{OverflowAt}
 
 -- ---- the moves
 
-pub all_here : (arena : Arena) (s t : ℕ) (handles : List MoveHandle) → Lead arena s handles t → All (IsMoveIn arena) handles
-all_here arena s t [] h = All-nil (IsMoveIn arena)
-all_here arena s t (m ∷ handles) (here, starts, rest) =
-    All-cons (IsMoveIn arena) m handles here (all_here arena (target_of arena m) t handles rest)
+-- the first k + 1 moves are of the arena where the first k and the next one are
+pub here_more : (arena : Arena) (handles : List MoveHandle) (k : ℕ) (m : MoveHandle) → k < length handles → m ≡ get_or handles k m
+    → IsMoveIn arena m → All (IsMoveIn arena) (take k handles) → All (IsMoveIn arena) (take (k + 1) handles)
+here_more arena handles k m within is here before =
+    subst (All (IsMoveIn arena))
+    (sym (take_more handles k m within ∙ ap (λ (x : MoveHandle). take k handles ++ x ∷ []) (sym is)))
+    (All-append (IsMoveIn arena) (take k handles) (m ∷ []) before (All-cons (IsMoveIn arena) m [] here (All-nil (IsMoveIn arena))))
 
 -- the moves from place k on begin with m
 pub lead_here : (arena : Arena) (s t : ℕ) (handles : List MoveHandle) (k : ℕ) (m : MoveHandle) → k < length handles

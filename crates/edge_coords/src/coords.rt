@@ -139,12 +139,7 @@ fn first_too_large(values: &[u128]) -> Option<usize>
     ensures some { IfSome result (IsLeastTooLarge values.now) }
     ensures none { IfNone result (AreSmall values.now) }
 {
-    for i in 0..values.len() {
-        if values[i] >= COORDINATE_LIMIT {
-            return Some(i);
-        }
-    }
-    None
+    values.iter().position(|n| *n >= COORDINATE_LIMIT)
 }
 
 /// The first triangle with an odd sum.

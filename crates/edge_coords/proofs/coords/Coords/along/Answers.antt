@@ -1,18 +1,17 @@
 use Rattle.std.proofs.Common.{◌≡◌, ◌+◌, ℕ, List, map, drop, ◌∙◌, ap, sym, subst}
-use Rattle.std.specs.List.{All}
-use Rattle.std.proofs.lemmas.List.Elements.{All-take}
 use Rattle.tri_atlas.specs.Arena.{Arena, MoveHandle, IsMoveIn, source_of, target_of, step_of}
 use Rattle.tri_atlas.specs.Paths.{Lead}
 use Rattle.edge_coords.specs.Coordinates.{Coordinates}
 use Rattle.edge_coords.specs.MovedCoordinates.{IsFirstOverflow}
-use Rattle.edge_coords.proofs.Along.{GoOn, all_here, lead_here, numbers_more, fit_more, first_overflow}
+use Rattle.edge_coords.proofs.Along.{GoOn, here_more, lead_here, numbers_more, fit_more, first_overflow}
 use Rattle.edge_coords.proofs.coords.Coords.along.Goals as goal
 
 pub flips-requires : goal.flips-requires
 flips-requires c =
-    All-take (IsMoveIn c.args.atlas.now) (c.loop-k.k + 1) c.moves-moves.result.now
-    (subst (All (IsMoveIn c.args.atlas.now)) (sym c.moves-moves.ensures)
-    (all_here c.args.atlas.now c.args.p.now.start c.args.p.now.end c.args.p.now.moves c.requires.path.moves_lead))
+    here_more c.args.atlas.now c.moves-moves.result.now c.loop-k.k c.index-moves-k.result c.loop-k-test.true c.index-moves-k.is
+    (lead_here c.args.atlas.now c.loop-k.moved.tri c.args.p.now.end c.moves-moves.result.now c.loop-k.k c.index-moves-k.result
+    c.loop-k-test.true c.index-moves-k.is c.loop-k.invariant.lead).0
+    c.loop-k.invariant.moves_here
 
 pub returns-in-Err-clause-refused : goal.returns-in-Err-clause-refused
 returns-in-Err-clause-refused c =
@@ -41,6 +40,8 @@ loop-k-preserved c =
           ∙ numbers_more arena handles c.args.self.now.numbers c.loop-k.moved.numbers c.loop-k.k m next c.loop-k-test.true
           c.index-moves-k.is c.loop-k.invariant.numbers;
       here = c.in_default.ensures.here;
+      moves_here =
+          here_more arena handles c.loop-k.k m c.loop-k-test.true c.index-moves-k.is lead.0 c.loop-k.invariant.moves_here;
       lead =
           subst (λ (t : ℕ). Lead arena t (drop (c.loop-k.k + 1) handles) c.args.p.now.end)
           (sym (ap (λ (d : Coordinates). d.tri) c.in_default.ensures.moved)) lead.2;
