@@ -1,0 +1,9 @@
+pub mod Triangles
+pub mod Kept
+pub mod Filled
+pub mod Turns
+pub mod MoveSteps
+pub mod Relabelled
+pub mod Along
+pub mod Ends
+pub mod FirstPeripheral

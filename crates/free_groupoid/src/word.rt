@@ -1,0 +1,85 @@
+//! Words of labels, in place.
+ghost use Rattle.std.specs.Prelude.{◌≡◌, ◌↔◌, ◌≤◌, ◌-◌, ◌*◌, ◌++◌, ◌∷◌, [], length, take, drop, IsTrue, OnOk};
+ghost use Rattle.ideal_tri.specs.Words.{reduce, cyclic_reduce, strip, IsReduced, IsRotation};
+
+use ideal_tri::{Label, Memory, word_laws};
+
+/// Reduces a word in place: no letter is left beside its inverse.
+pub(crate) fn reduce(letters: &mut Vec<Label>)
+    ensures { letters.new.items ≡ reduce letters.old.items }
+{
+    word_laws();
+    let count = letters.len();
+    let mut top = 0;
+    for i in 0..count {
+        let x = letters[i];
+        if top > 0 && letters[top - 1] == x.inverse() {
+            top -= 1;
+        } else {
+            letters[top] = x;
+            top += 1;
+        }
+    }
+    letters.truncate(top);
+}
+
+/// Reduces a closed word in place, at its two ends too.
+pub(crate) fn cyclic_reduce(letters: &mut Vec<Label>)
+    ensures { letters.new.items ≡ cyclic_reduce letters.old.items }
+{
+    reduce(letters);
+    let ends = matching_ends(letters);
+    let kept = letters.len() - ends;
+    letters.truncate(kept);
+    letters.rotate_left(ends);
+    letters.truncate(kept - ends);
+}
+
+/// How many letters at the start of a word meet their inverses at its end.
+fn matching_ends(letters: &[Label]) -> usize
+    ensures within { 2 * result ≤ length letters.now }
+    ensures between { strip (length letters.now) letters.now
+        ≡ take (length letters.now - 2 * result) (drop result letters.now) }
+{
+    let count = letters.len();
+    let mut ends = 0;
+    while ends < count / 2 && letters[count - 1 - ends] == letters[ends].inverse() {
+        ends += 1;
+    }
+    ends
+}
+
+/// Whether the second word is the first, begun at another of its places.
+pub(crate) fn is_rotation(v: &[Label], w: &[Label]) -> bool
+    ensures { IsTrue result ↔ IsRotation v.now w.now }
+{
+    let count = v.len();
+    if w.len() != count {
+        return false;
+    }
+    if count == 0 {
+        return true;
+    }
+    for k in 0..count {
+        if v[k..] == w[..count - k] && v[..k] == w[count - k..] {
+            return true;
+        }
+    }
+    false
+}
+
+/// Puts a letter behind a reduced word, and reduces it again.
+pub(crate) fn push_reduced(word: &mut Vec<Label>, x: Label) -> Result<(), Memory>
+    requires { IsReduced word.old.items }
+    ensures value { OnOk result (word.new.items ≡ reduce (word.old.items ++ x ∷ [])) }
+    ensures reduced { OnOk result (IsReduced word.new.items) }
+{
+    word_laws();
+    let count = word.len();
+    if count > 0 && word[count - 1] == x.inverse() {
+        word.truncate(count - 1);
+    } else {
+        word.push(x)?;
+    }
+    Ok(())
+}

@@ -1,0 +1,5 @@
+pub mod Numbers
+pub mod Marking
+pub mod Tracing
+pub mod InOrder
+pub mod ClosedWalks

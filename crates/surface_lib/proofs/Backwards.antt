@@ -1,0 +1,48 @@
+-- A path backwards has as many moves and as many flips.
+use Rattle.std.proofs.Common.{◌≡◌, ◌+◌, ℕ, Bool, true, false, List, [], ◌∷◌, ◌++◌, length, map, reverse, refl, ap, ◌∙◌, sym, arith, add_comm}
+use Rattle.std.proofs.lemmas.Grind.{common_steps}
+use Rattle.std.proofs.lemmas.List.{length-reverse, length-map, reverse-append}
+use Rattle.std.specs.Prelude.{count_by, not, if◌then◌else◌}
+use Rattle.tri_atlas.specs.Moves.{Move, flip, unflip, relabel, back_of}
+use Rattle.tri_atlas.specs.Arena.{Arena, MoveHandle, step_of, back, entry_at}
+use Rattle.tri_atlas.specs.Paths.{is_flip}
+use Rattle.surface_lib.specs.Words.{backwards}
+use Rattle.surface_lib.specs.Refusals.{flips_among}
+
+-- ---- flips of joined lists
+
+pub flips-append : (arena : Arena) (u v : List MoveHandle) → flips_among arena (u ++ v) ≡ flips_among arena u + flips_among arena v
+flips-append arena [] v = omega arith
+flips-append arena (m ∷ u) v = grind (arith, common_steps, flips-append arena u v)
+
+-- ---- the same move, the other way
+
+back_is_flip : (m : Move) → is_flip (back_of m) ≡ is_flip m
+back_is_flip (flip e a b c d) = refl
+back_is_flip (unflip e a b c d) = refl
+back_is_flip (relabel images) = refl
+
+is_flip_back : (arena : Arena) (m : MoveHandle) → is_flip (step_of arena (back m)) ≡ is_flip (step_of arena m)
+is_flip_back arena m = by m.backwards (entry_at arena.moves m.number).move
+  where
+    by : (b : Bool) (z : Move) → is_flip (if not b then back_of z else z) ≡ is_flip (if b then back_of z else z)
+    by true z = sym (back_is_flip z)
+    by false z = back_is_flip z
+
+-- ---- the path backwards
+
+pub length-backwards : (moves : List MoveHandle) → length (backwards moves) ≡ length moves
+length-backwards moves = length-reverse (map back moves) ∙ length-map moves back
+
+flips-one : (arena : Arena) (m : MoveHandle) → flips_among arena (back m ∷ []) ≡ flips_among arena (m ∷ [])
+flips-one arena m = grind (arith, common_steps, is_flip_back arena m)
+
+pub flips-backwards : (arena : Arena) (moves : List MoveHandle) → flips_among arena (backwards moves) ≡ flips_among arena moves
+flips-backwards arena [] = refl
+flips-backwards arena (m ∷ u) =
+    ap (flips_among arena) (reverse-append (back m ∷ []) (map back u))
+    ∙ flips-append arena (backwards u) (back m ∷ [])
+    ∙ ap (λ (z : ℕ). z + flips_among arena (back m ∷ [])) (flips-backwards arena u)
+    ∙ ap (λ (z : ℕ). flips_among arena u + z) (flips-one arena m)
+    ∙ add_comm (flips_among arena u) (flips_among arena (m ∷ []))
+    ∙ sym (flips-append arena (m ∷ []) u)

@@ -1,0 +1,92 @@
+-- A word's names and moves together, and their counts in 128 bits.
+use Rattle.std.proofs.Common.{◌≡◌, ◌≤◌, ◌<◌, ◌+◌, ◌-◌, ◌*◌, ◌^◌, ℕ, zero, suc, Bool, true, false, List, [], ◌∷◌, ◌++◌, length, min, refl, ap, ◌∙◌, sym, arith, length-append}
+use Rattle.std.proofs.lemmas.Grind.{common_steps}
+use Rattle.std.specs.Prelude.{if◌then◌else◌}
+use Rattle.std.specs.List.{repeat}
+use Rattle.tri_atlas.specs.Arena.{Arena, MoveHandle}
+use Rattle.surface_lib.specs.Words.{Generator, Target, moves_written, names_written, backwards, value_of_text}
+use Rattle.surface_lib.specs.Refusals.{flips_among}
+use Rattle.surface_lib.specs.inside.Counted.{capped, both, times, of_name, no_counts, counted}
+use Rattle.surface_lib.specs.declared.counts.Counts.{Counts}
+use Rattle.surface_lib.specs.declared.power.Power.{Power}
+use Rattle.surface_lib.proofs.Backwards.{flips-append, flips-backwards, length-backwards}
+use Rattle.surface_lib.proofs.Capped.{min-add, min-mul}
+use Rattle.surface_lib.proofs.Carried.{IsCarried, carried_text}
+
+pub record Written : Type 0 where
+  pub names : ℕ
+  pub moves : List MoveHandle
+
+abbrev turned : Power → List MoveHandle → List MoveHandle
+turned k v = if k.backwards then backwards v else v
+
+abbrev pub written : Target Written
+written = record {
+  none = record { names = 0; moves = [] };
+  joined = λ a b. record { names = a.names + b.names; moves = a.moves ++ b.moves };
+  taken = λ k a. record { names = k.times * a.names; moves = repeat k.times (if k.backwards then backwards a.moves else a.moves) };
+  named = λ moves. record { names = 1; moves = moves };
+}
+
+-- ---- its parts
+
+names_carried : IsCarried written names_written (λ w. w.names)
+names_carried = record { none = refl; joined = λ a b. refl; taken = λ k a. refl; named = λ moves. refl }
+
+moves_carried : IsCarried written moves_written (λ w. w.moves)
+moves_carried = record { none = refl; joined = λ a b. refl; taken = λ k a. refl; named = λ moves. refl }
+
+pub names_are : (generators : List Generator) (k : ℕ) (s : List ℕ)
+    → (value_of_text written generators k s).names ≡ value_of_text names_written generators k s
+names_are generators k s = carried_text written names_written (λ w. w.names) names_carried generators k s
+
+pub moves_are : (generators : List Generator) (k : ℕ) (s : List ℕ)
+    → (value_of_text written generators k s).moves ≡ value_of_text moves_written generators k s
+moves_are generators k s = carried_text written moves_written (λ w. w.moves) moves_carried generators k s
+
+-- ---- its counts
+
+pub length-repeat : (n : ℕ) (u : List MoveHandle) → length (repeat n u) ≡ n * length u
+length-repeat zero u = sym (grind arith)
+length-repeat (suc n) u = length-append u (repeat n u) ∙ grind (arith, length-repeat n u)
+
+flips-repeat : (arena : Arena) (n : ℕ) (u : List MoveHandle) → flips_among arena (repeat n u) ≡ n * flips_among arena u
+flips-repeat arena zero u = grind arith
+flips-repeat arena (suc n) u = flips-append arena u (repeat n u) ∙ grind (arith, flips-repeat arena n u)
+
+flips-turned : (arena : Arena) (b : Bool) (u : List MoveHandle) → flips_among arena (if b then backwards u else u) ≡ flips_among arena u
+flips-turned arena true u = flips-backwards arena u
+flips-turned arena false u = refl
+
+pub length-turned : (b : Bool) (u : List MoveHandle) → length (if b then backwards u else u) ≡ length u
+length-turned true u = length-backwards u
+length-turned false u = refl
+
+abbrev pub counts_are : Arena → Written → Counts
+counts_are arena w = record { names = capped w.names; flips = capped (flips_among arena w.moves); moves = capped (length w.moves) }
+
+three : (a b c d e f : ℕ) → a ≡ d → b ≡ e → c ≡ f
+    → record { names = a; flips = b; moves = c } ≡ (let r : Counts = record { names = d; flips = e; moves = f } in r)
+three a b c d e f p q r =
+    let make : ℕ → ℕ → ℕ → Counts = λ x y z. record { names = x; flips = y; moves = z } in
+    ap (λ (x : ℕ). make x b c) p ∙ ap (λ (y : ℕ). make d y c) q ∙ ap (λ (z : ℕ). make d e z) r
+
+counts_carried : (arena : Arena) → IsCarried written (counted arena) (counts_are arena)
+counts_carried arena = record {
+  none = refl;
+  joined = λ a b. three _ _ _ _ _ _
+    (sym (min-add (2 ^ 128 - 1) a.names b.names))
+    (ap capped (flips-append arena a.moves b.moves) ∙ sym (min-add (2 ^ 128 - 1) (flips_among arena a.moves) (flips_among arena b.moves)))
+    (ap capped (length-append a.moves b.moves) ∙ sym (min-add (2 ^ 128 - 1) (length a.moves) (length b.moves)));
+  taken = λ k a. three _ _ _ _ _ _
+    (sym (min-mul (2 ^ 128 - 1) k.times a.names))
+    (ap capped (flips-repeat arena k.times (turned k a.moves) ∙ ap (λ (z : ℕ). k.times * z) (flips-turned arena k.backwards a.moves))
+     ∙ sym (min-mul (2 ^ 128 - 1) k.times (flips_among arena a.moves)))
+    (ap capped (length-repeat k.times (turned k a.moves) ∙ ap (λ (z : ℕ). k.times * z) (length-turned k.backwards a.moves))
+     ∙ sym (min-mul (2 ^ 128 - 1) k.times (length a.moves)));
+  named = λ moves. refl;
+}
+
+pub counts_of_text : (arena : Arena) (generators : List Generator) (k : ℕ) (s : List ℕ)
+    → counts_are arena (value_of_text written generators k s) ≡ value_of_text (counted arena) generators k s
+counts_of_text arena generators k s = carried_text written (counted arena) (counts_are arena) (counts_carried arena) generators k s

@@ -1,0 +1,53 @@
+-- What contracts see of a surface.
+use Rattle.std.specs.Prelude.{◌≡◌, ◌<◌, ◌^◌, ℕ, List, map, length, All, String, string_bytes, Bool, true, false, ◌&&◌, ◌||◌, ◌==◌, nat_le, [], ◌∷◌}
+use Rattle.std.specs.List.{list_all}
+use Rattle.std.specs.declared.alloc.Global.{Global}
+use Rattle.tri_atlas.specs.Arena.{Arena, MoveHandle}
+use Rattle.tri_atlas.specs.Paths.{MovePath, IsPathIn}
+use Rattle.surface_lib.specs.Words.{Generator}
+use Rattle.surface_lib.specs.declared.surface.Surface.{Surface}
+
+abbrev pub generator_of : String Global × MovePath → Generator
+generator_of e = record { spelt = string_bytes e.0; moves = e.1.moves }
+
+abbrev pub generators_in : List (String Global × MovePath) → List Generator
+generators_in entries = map generator_of entries
+
+abbrev pub generators_of : Surface → List Generator
+generators_of s = generators_in s.generators.entries
+
+-- ---- names
+
+abbrev pub is_lower : ℕ → Bool
+is_lower c = nat_le 97 c && nat_le c 122
+
+-- a lower-case letter, a digit or `_`
+abbrev pub is_name_byte : ℕ → Bool
+is_name_byte c = is_lower c || ((nat_le 48 c && nat_le c 57) || c == 95)
+
+-- a generator's name: a lower-case letter, and at most 15 more bytes
+abbrev pub is_generator_name : List ℕ → Bool
+is_generator_name [] = false
+is_generator_name (c ∷ s) = is_lower c && (nat_le (length s) 15 && list_all is_name_byte s)
+
+-- ---- surfaces
+
+-- a path of the arena from the base to the base
+pub record IsLoop (arena : Arena) (path : MovePath) : Type 0 where
+  pub within : IsPathIn arena path
+  pub start : path.start ≡ 0
+  pub end : path.end ≡ 0
+
+-- a generator of the arena: a loop with fewer than 2^31 moves
+pub record IsGenerator (arena : Arena) (e : String Global × MovePath) : Type 0 where
+  pub spelt : is_generator_name (string_bytes e.0) ≡ true
+  pub loop : IsLoop arena e.1
+  pub short : length e.1.moves < 2 ^ 31
+
+-- what every call that takes a surface asks of its fields
+abbrev pub IsSurface : Surface → Type 0
+IsSurface s = All (IsGenerator s.atlas) s.generators.entries
+
+-- a path from the base to the base
+abbrev pub at_base : List MoveHandle → MovePath
+at_base moves = record { start = 0; end = 0; moves = moves }

@@ -1,0 +1,4 @@
+pub mod Cut
+pub mod Found
+pub mod Counted
+pub mod Verdicts
