@@ -4,7 +4,7 @@
 -- curves so far do not use it, which its mark tells. If it is, its curve is the next one; otherwise none begins there.
 use Rattle.std.proofs.Common.{ℕ, zero, suc, ℤ, pos, Bool, true, false, cond, List, [], ◌∷◌, ◌++◌, ◌≡◌, ◌≢◌, ◌<◌, ◌+◌}
 use Rattle.std.proofs.Common.{◌↔◌}
-use Rattle.std.proofs.Common.{inl, inr, refl, sym, ◌∙◌, ap, subst, arith, take, drop, length, map, append_assoc}
+use Rattle.std.proofs.Common.{inl, inr, sym, ◌∙◌, ap, subst, arith, take, drop, length, map, append_assoc}
 use Rattle.std.specs.List.{range_with_len, flat_map, filter}
 use Rattle.std.specs.Prelude.{slice_index}
 use Rattle.std.proofs.lemmas.List.{take-append-drop, length-take-le, map-append, append-nil, take_more}
@@ -41,10 +41,6 @@ row e n = map (state_at (pos e)) (range_with_len 0 n)
 
 front : (w : List ℕ) (e : ℕ) → e < length w → 0 + length (take e w) ≡ e
 front w e b = omega (arith, length-take-le e w (omega arith))
-
-pub before-none : (w : List ℕ) → strands_before w (state_at (pos 0) 0) ≡ []
-before-none [] = refl
-before-none (n ∷ w) = refl
 
 pub before-all : (w : List ℕ) (e : ℕ) → e ≡ length w → strands_before w (state_at (pos e) 0) ≡ strands w
 before-all w e is =

@@ -41,17 +41,6 @@ module _ (triples : List (List ℤ)) (w : List ℕ) where
   runs_more p r [] e = (sym e, ap (strand_step triples w) e)
   runs_more p r (x ∷ run) (e, h) = (e, runs_more (strand_step triples w p) r run h)
 
-  pub traced_first : (q at : State) (before m : Marks) → at ≡ strand_step triples w q
-      → ((run : List State) → AreMarked w before run → AreMarked w m (run ++ (q ∷ [])))
-      → IsTraced triples w q at (q.label ∷ []) before m
-  traced_first q at before m e marked = record {
-    run = [];
-    runs = (refl, sym e);
-    onward = All-nil (λ p. p ≢ q);
-    word = refl;
-    marked = marked;
-  }
-
   pub traced_more : (q at next : State) (letters : List ℤ) (before m after : Marks)
       → IsTraced triples w q at letters before m → at ≢ q → next ≡ strand_step triples w at
       → ((run : List State) → AreMarked w m run → AreMarked w after (run ++ (at ∷ [])))
