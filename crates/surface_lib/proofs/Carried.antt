@@ -40,8 +40,8 @@ carried_pieces from to h c generators f g e [] v w is = is
 carried_pieces from to h c generators f g e (q ∷ qs) v w is =
     carried_pieces from to h c generators f g e qs _ _
     (c.joined v (value_of_piece from generators f (piece q))
-     ∙ ap (λ z. to.joined z (h (value_of_piece from generators f (piece q)))) is
-     ∙ ap (to.joined w) (carried_piece from to h c generators f g e (piece q)))
+    ∙ ap (λ z. to.joined z (h (value_of_piece from generators f (piece q)))) is
+    ∙ ap (to.joined w) (carried_piece from to h c generators f g e (piece q)))
 
 pub carried_text : {V W : Type 0} (from : Target V) (to : Target W) (h : V → W) → IsCarried from to h
     → (generators : List Generator) (levels : ℕ) (s : List ℕ)

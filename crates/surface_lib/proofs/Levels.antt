@@ -11,7 +11,7 @@ test_of_level generators (suc k) number s some =
 
 pub value_of_level : {V : Type 0} (target : Target V) (generators : List Generator) (levels : ℕ) (s : List ℕ) → (levels ≡ 0 → ⊥)
     → value_of_pieces target generators (value_of_text target generators (levels - 1)) target.none (pieces s)
-      ≡ value_of_text target generators levels s
+    ≡ value_of_text target generators levels s
 value_of_level target generators zero s some = absurd (some refl)
 value_of_level {V} target generators (suc k) s some =
     let e : suc k - 1 ≡ k = omega arith in

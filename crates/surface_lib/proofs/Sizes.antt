@@ -51,7 +51,7 @@ counts_of_word arena es all s c few e =
     let w : Written = value_of_text written g levels s in
     let small : w.names < 2 ^ 128 = subst (λ (z : ℕ). z < 2 ^ 128) (sym (names_are g levels s)) (few_names g s few) in
     let found : AreCounts arena c w.names w.moves =
-        of_written arena w c (counts_of_text arena g levels s ∙ sym e) small (moves_bound arena es all levels s) in
+    of_written arena w c (counts_of_text arena g levels s ∙ sym e) small (moves_bound arena es all levels s) in
     subst (λ (z : List MoveHandle). AreCounts arena c (value_of_text names_written g levels s) z) (moves_are g levels s)
     (subst (λ (z : ℕ). AreCounts arena c z w.moves) (names_are g levels s) found)
 
@@ -62,8 +62,8 @@ verdict_of_sizes names flips moves = by (nat_lt part_limit names) (nat_lt flip_l
   where
     by : (a b c : Bool)
         → IsVerdict (if a then Err (PartsOver names) else if b then Err (FlipsOver flips) else if c then Err (MovesOver (length moves)) else Ok tt)
-          moves
-          (if a then Err (PartsOver names) else if b then Err (FlipsOver flips) else if c then Err (MovesOver (length moves)) else Ok moves)
+        moves
+        (if a then Err (PartsOver names) else if b then Err (FlipsOver flips) else if c then Err (MovesOver (length moves)) else Ok moves)
     by true b c = refl
     by false true c = refl
     by false false true = refl
@@ -76,8 +76,8 @@ same_sizes arena c names moves are = ap (λ (z : ℕ). test_sizes z c.flips c.mo
     by : (b : Bool) → nat_lt part_limit names ≡ b → test_sizes names c.flips c.moves ≡ test_sizes names (flips_among arena moves) (length moves)
     by true over =
         let over_by : ℕ → ℕ → Bool → Result (Unit {0}) WordError = λ f m b.
-            if b then Err (PartsOver names) else if nat_lt flip_limit f then Err (FlipsOver f)
-            else if nat_lt move_limit m then Err (MovesOver m) else Ok tt in
+        if b then Err (PartsOver names) else if nat_lt flip_limit f then Err (FlipsOver f)
+        else if nat_lt move_limit m then Err (MovesOver m) else Ok tt in
         ap (over_by c.flips c.moves) over ∙ sym (ap (over_by (flips_among arena moves) (length moves)) over)
     by false within =
         let few : names ≤ 4096 = grind (arith, common_steps, within) in
@@ -93,8 +93,8 @@ verdict arena g s c r next are few passed is =
     let moves : List MoveHandle = value_of_text moves_written g levels s in
     let short : nat_lt part_limit (dots s + 1) ≡ false = grind (arith, common_steps, few) in
     let told : tested arena g s None ≡ sized names (flips_among arena moves) moves =
-        ap (λ (b : Bool). if b then Err (WordTooLong (dots s + 1)) else sized_if arena g s (test_text g levels 0 s)) short
-        ∙ ap (sized_if arena g s) (sym passed) in
+    ap (λ (b : Bool). if b then Err (WordTooLong (dots s + 1)) else sized_if arena g s (test_text g levels 0 s)) short
+    ∙ ap (sized_if arena g s) (sym passed) in
     subst (λ (z : Result (List MoveHandle) WordError). IsVerdict r moves z) (sym told)
     (subst (λ (z : Result (Unit {0}) WordError). IsVerdict z moves (sized names (flips_among arena moves) moves))
-     (sym (is ∙ same_sizes arena c names moves are)) (verdict_of_sizes names (flips_among arena moves) moves))
+    (sym (is ∙ same_sizes arena c names moves are)) (verdict_of_sizes names (flips_among arena moves) moves))

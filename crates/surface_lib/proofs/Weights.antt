@@ -85,6 +85,7 @@ piece_bound generators f k inside (c ∷ s) = by (c == open_bracket)
   where
     group_dots : dots (take (before close_bracket 0 s) s) + 1 ≤ dots (c ∷ s) + 1
     group_dots = omega (arith, take_dots (before close_bracket 0 s) s, dots-cons c s)
+
     by : (b : Bool) → value_of_piece names_written generators f (if b then group_behind s else name_in (c ∷ s))
         ≤ (dots (c ∷ s) + 1) * (4096 * scale k)
     by true = taken_bound _ (dots (take (before close_bracket 0 s) s) + 1) _ (scale k) (power (drop (before close_bracket 0 s + 1) s))
@@ -108,7 +109,7 @@ names_bound generators zero s = zero-le
 names_bound generators (suc k) s =
     let all = pieces_bound generators (value_of_text names_written generators k) k (names_bound generators k) (pieces s) 0 in
     let few : weight (pieces s) * (4096 * scale k) ≤ (dots s + 1) * (4096 * scale k) =
-        mul-le-mul_right (4096 * scale k) (pieces_weight s) in
+    mul-le-mul_right (4096 * scale k) (pieces_weight s) in
     omega (arith, all, few)
 
 -- with few dots the number of names is below 2^128

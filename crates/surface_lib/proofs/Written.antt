@@ -75,15 +75,15 @@ counts_carried : (arena : Arena) → IsCarried written (counted arena) (counts_a
 counts_carried arena = record {
   none = refl;
   joined = λ a b. three _ _ _ _ _ _
-    (sym (min-add (2 ^ 128 - 1) a.names b.names))
-    (ap capped (flips-append arena a.moves b.moves) ∙ sym (min-add (2 ^ 128 - 1) (flips_among arena a.moves) (flips_among arena b.moves)))
-    (ap capped (length-append a.moves b.moves) ∙ sym (min-add (2 ^ 128 - 1) (length a.moves) (length b.moves)));
+      (sym (min-add (2 ^ 128 - 1) a.names b.names))
+      (ap capped (flips-append arena a.moves b.moves) ∙ sym (min-add (2 ^ 128 - 1) (flips_among arena a.moves) (flips_among arena b.moves)))
+      (ap capped (length-append a.moves b.moves) ∙ sym (min-add (2 ^ 128 - 1) (length a.moves) (length b.moves)));
   taken = λ k a. three _ _ _ _ _ _
-    (sym (min-mul (2 ^ 128 - 1) k.times a.names))
-    (ap capped (flips-repeat arena k.times (turned k a.moves) ∙ ap (λ (z : ℕ). k.times * z) (flips-turned arena k.backwards a.moves))
-     ∙ sym (min-mul (2 ^ 128 - 1) k.times (flips_among arena a.moves)))
-    (ap capped (length-repeat k.times (turned k a.moves) ∙ ap (λ (z : ℕ). k.times * z) (length-turned k.backwards a.moves))
-     ∙ sym (min-mul (2 ^ 128 - 1) k.times (length a.moves)));
+      (sym (min-mul (2 ^ 128 - 1) k.times a.names))
+      (ap capped (flips-repeat arena k.times (turned k a.moves) ∙ ap (λ (z : ℕ). k.times * z) (flips-turned arena k.backwards a.moves))
+      ∙ sym (min-mul (2 ^ 128 - 1) k.times (flips_among arena a.moves)))
+      (ap capped (length-repeat k.times (turned k a.moves) ∙ ap (λ (z : ℕ). k.times * z) (length-turned k.backwards a.moves))
+      ∙ sym (min-mul (2 ^ 128 - 1) k.times (length a.moves)));
   named = λ moves. refl;
 }
 

@@ -16,6 +16,8 @@ mod power;
 mod surface;
 mod tested;
 mod word;
+#[cfg(test)]
+mod word_tests;
 
 pub use error::WordError;
 pub use surface::Surface;

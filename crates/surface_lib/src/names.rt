@@ -28,11 +28,7 @@ pub(crate) fn generator_named<'a>(s: &'a Surface, name: &[u8]) -> Option<Named<'
     }
 }
 
-fn with_first<'a>(
-    s: &'a Surface,
-    first: u8,
-    rest: &[u8],
-) -> Option<Named<'a>>
+fn with_first<'a>(s: &'a Surface, first: u8, rest: &[u8]) -> Option<Named<'a>>
     requires { IsSurface s.now }
     ensures closed { IfSome result (λ n. IsLoop s.now.atlas n.path.now) }
     ensures found { moves_found result ≡ moves_named (generators_of s.now) (first ∷ rest.now) }

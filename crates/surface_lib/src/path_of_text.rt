@@ -69,10 +69,12 @@ fn path_of_name(alloc: Global, s: &Surface, named: Option<Named<'_>>) -> Result<
     ensures moves { IfOk result (λ p. p.moves ≡ named_if moves_written (moves_found named.entry)) }
 {
     match named {
-        Some(Named {
-            path,
-            backwards: true,
-        }) => path.inverse(alloc, &s.atlas),
+        Some(
+            Named {
+                path,
+                backwards: true,
+            },
+        ) => path.inverse(alloc, &s.atlas),
         Some(Named { path, .. }) => repeated(alloc, s, path, 1),
         None => Ok(Path::new(alloc, s.atlas.base())),
     }

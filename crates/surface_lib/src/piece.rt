@@ -145,5 +145,8 @@ fn name(text: &[u8]) -> Piece<'_>
     ensures inside { inside_length result ≤ length text.now }
 {
     let end = before_first(b'^', text);
-    Piece::Name { spelt: &text[..end], power: &text[end..] }
+    Piece::Name {
+        spelt: &text[..end],
+        power: &text[end..],
+    }
 }

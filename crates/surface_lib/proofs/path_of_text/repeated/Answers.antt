@@ -22,8 +22,8 @@ loop-turn-preserved c =
     let before = c.loop-turn.invariant in
     record {
       closed = loops_joined c.args.s.now.atlas c.loop-turn.whole c.args.path.now c.append.new.self now.joined
-        (now.path c.args.s.now.atlas before.closed.within c.requires.within) before.closed c.requires;
+          (now.path c.args.s.now.atlas before.closed.within c.requires.within) before.closed c.requires;
       left = ap (λ (z : MovePath). z.moves ++ repeat (c.args.times - (c.loop-turn._turn + 1)) c.args.path.now.moves) now.joined
-        ∙ once_more c.args.times c.loop-turn._turn c.loop-turn.whole.moves c.args.path.now.moves c.loop-turn-test.true
-        ∙ before.left;
+          ∙ once_more c.args.times c.loop-turn._turn c.loop-turn.whole.moves c.args.path.now.moves c.loop-turn-test.true
+          ∙ before.left;
     }
