@@ -46,3 +46,14 @@ flips-backwards arena (m ∷ u) =
     ∙ ap (λ (z : ℕ). flips_among arena u + z) (flips-one arena m)
     ∙ add_comm (flips_among arena u) (flips_among arena (m ∷ []))
     ∙ sym (flips-append arena (m ∷ []) u)
+
+-- ---- a path that may be turned
+
+pub flips-turned : (arena : Arena) (b : Bool) (u : List MoveHandle)
+    → flips_among arena (if b then backwards u else u) ≡ flips_among arena u
+flips-turned arena true u = flips-backwards arena u
+flips-turned arena false u = refl
+
+pub length-turned : (b : Bool) (u : List MoveHandle) → length (if b then backwards u else u) ≡ length u
+length-turned true u = length-backwards u
+length-turned false u = refl

@@ -18,8 +18,8 @@ use Rattle.surface_lib.specs.Words.{Generator, moves_of, moves_named, is_upper, 
 use Rattle.surface_lib.specs.Refusals.{flips_among}
 use Rattle.surface_lib.specs.Surfaces.{generators_in, generator_of, IsGenerator}
 use Rattle.surface_lib.specs.declared.power.Power.{Power}
-use Rattle.surface_lib.proofs.Backwards.{length-backwards}
-use Rattle.surface_lib.proofs.Written.{Written, written, length-turned, length-repeat}
+use Rattle.surface_lib.proofs.Backwards.{length-backwards, length-turned}
+use Rattle.surface_lib.proofs.Written.{Written, written, length-repeat}
 
 -- ---- names
 

@@ -9,7 +9,7 @@ use Rattle.surface_lib.specs.Refusals.{flips_among}
 use Rattle.surface_lib.specs.inside.Counted.{capped, both, times, of_name, no_counts, counted}
 use Rattle.surface_lib.specs.declared.counts.Counts.{Counts}
 use Rattle.surface_lib.specs.declared.power.Power.{Power}
-use Rattle.surface_lib.proofs.Backwards.{flips-append, flips-backwards, length-backwards}
+use Rattle.surface_lib.proofs.Backwards.{flips-append, flips-turned, length-turned}
 use Rattle.surface_lib.proofs.Capped.{min-add, min-mul}
 use Rattle.surface_lib.proofs.Carried.{IsCarried, carried_text}
 
@@ -53,14 +53,6 @@ length-repeat (suc n) u = length-append u (repeat n u) ∙ grind (arith, length-
 flips-repeat : (arena : Arena) (n : ℕ) (u : List MoveHandle) → flips_among arena (repeat n u) ≡ n * flips_among arena u
 flips-repeat arena zero u = grind arith
 flips-repeat arena (suc n) u = flips-append arena u (repeat n u) ∙ grind (arith, flips-repeat arena n u)
-
-flips-turned : (arena : Arena) (b : Bool) (u : List MoveHandle) → flips_among arena (if b then backwards u else u) ≡ flips_among arena u
-flips-turned arena true u = flips-backwards arena u
-flips-turned arena false u = refl
-
-pub length-turned : (b : Bool) (u : List MoveHandle) → length (if b then backwards u else u) ≡ length u
-length-turned true u = length-backwards u
-length-turned false u = refl
 
 abbrev pub counts_are : Arena → Written → Counts
 counts_are arena w = record { names = capped w.names; flips = capped (flips_among arena w.moves); moves = capped (length w.moves) }

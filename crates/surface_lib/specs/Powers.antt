@@ -1,4 +1,5 @@
--- Powers behind a name or a group: `^`, then `-` or nothing, then one to four digits of value 1 to 4,096.
+-- Powers behind a name or a group: `^`, then `-` or nothing, then one to four digits of value 1 to
+-- 4,096.
 use Rattle.std.specs.Prelude.{ℕ, ◌+◌, ◌-◌, ◌*◌, Bool, true, false, ◌&&◌, ◌==◌, nat_le, List, [], ◌∷◌, Option, Some, None, if◌then◌else◌}
 use Rattle.surface_lib.specs.Pieces.{power_sign}
 use Rattle.surface_lib.specs.declared.power.Power.{Power}
@@ -14,7 +15,8 @@ is_digit c = nat_le 48 c && nat_le c 57
 abbrev pub number_of : ℕ → ℕ → ℕ → ℕ → Option ℕ
 number_of a b c d =
     let n : ℕ = 1000 * (a - 48) + 100 * (b - 48) + 10 * (c - 48) + (d - 48) in
-    if (is_digit a && is_digit b) && (is_digit c && is_digit d) && (nat_le 1 n && nat_le n power_limit) then Some n else None
+    if (is_digit a && is_digit b) && (is_digit c && is_digit d) && (nat_le 1 n && nat_le n power_limit)
+    then Some n else None
 
 -- one to four digits; fewer than four are as those with zeros (code 48) in front
 abbrev pub exponent : List ℕ → Option ℕ

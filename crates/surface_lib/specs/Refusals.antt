@@ -34,7 +34,8 @@ sized names flips moves =
     else if nat_lt move_limit (length moves) then Err (MovesOver (length moves))
     else Ok moves
 
-abbrev pub sized_if : Arena → List Generator → List ℕ → Result ℕ WordError → Result (List MoveHandle) WordError
+abbrev pub sized_if : Arena → List Generator → List ℕ → Result ℕ WordError
+    → Result (List MoveHandle) WordError
 sized_if arena generators s (Err refusal) = Err refusal
 sized_if arena generators s (Ok parts) =
     let moves : List MoveHandle = value_of_text moves_written generators levels s in
@@ -46,7 +47,7 @@ tested arena generators s None =
     if nat_lt part_limit (dots s + 1) then Err (WordTooLong (dots s + 1))
     else sized_if arena generators s (test_text generators levels 0 s)
 
--- the moves of the word that the text spells, or its first refusal: brackets, dots, the pieces in order of
--- reading, then names, flips and moves
+-- the moves of the word that the text spells, or its first refusal: brackets, dots, the pieces in
+-- order of reading, then names, flips and moves
 abbrev pub reading : Arena → List Generator → List ℕ → Result (List MoveHandle) WordError
 reading arena generators s = tested arena generators s (bad_bracket 0 0 s)

@@ -25,7 +25,8 @@ pub(crate) fn path_of_text(
 ) -> Result<Path, Memory>
     requires { IsSurface s.now }
     ensures closed { IfOk result (IsLoop s.now.atlas) }
-    ensures moves { IfOk result (λ p. p.moves ≡ value_of_text moves_written (generators_of s.now) levels text.now) }
+    ensures moves { IfOk result
+        (λ p. p.moves ≡ value_of_text moves_written (generators_of s.now) levels text.now) }
 {
     let mut path = Path::new(alloc, s.atlas.base());
     if levels == 0 {
@@ -105,8 +106,8 @@ fn times(alloc: Global, s: &Surface, path: &Path, power: Power) -> Result<Path, 
     }
 }
 
-/// The path so many times. A path without moves is passed over, so that nested empty groups with large powers cost
-/// nothing.
+/// The path so many times. A path without moves is passed over, so that nested empty groups with
+/// large powers cost nothing.
 fn repeated(alloc: Global, s: &Surface, path: &Path, times: u32) -> Result<Path, Memory>
     requires { IsLoop s.now.atlas path.now }
     ensures closed { IfOk result (IsLoop s.now.atlas) }

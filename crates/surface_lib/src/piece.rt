@@ -14,7 +14,8 @@ pub(crate) enum Piece<'a> {
 /// How many brackets may be open at once.
 const DEPTH_LIMIT: u64 = 8;
 
-/// The place of the first bracket that closes nothing or opens one too many; or the end, where one stays open.
+/// The place of the first bracket that closes nothing or opens one too many; or the end, where one
+/// stays open.
 pub(crate) fn bad_bracket(text: &[u8]) -> Option<u64>
     ensures { result ≡ bad_bracket 0 0 text.now }
 {
@@ -103,7 +104,8 @@ pub(crate) fn pieces(text: &[u8]) -> Option<&[u8]>
 /// The first piece, and what stands behind the dot that ends it.
 pub(crate) fn first_piece(text: &[u8]) -> (&[u8], Option<&[u8]>)
     ensures cut { parts 0 text.now ≡ result.0.now ∷ parts_left (option_map (λ r. r.now) result.1) }
-    ensures size { length result.0.now + 1 + bytes_left (option_map (λ r. r.now) result.1) ≤ length text.now + 1 }
+    ensures size { length result.0.now + 1 + bytes_left (option_map (λ r. r.now) result.1)
+        ≤ length text.now + 1 }
 {
     let end = before(b'.', text);
     let first = &text[..end];

@@ -12,8 +12,8 @@ pub struct Power {
 /// The largest exponent.
 const POWER_LIMIT: u32 = 4_096;
 
-/// The power that the text behind a name or a group is: `^`, then `-` or nothing, then one to four digits of value 1 to
-/// 4,096. Where nothing is written it is 1.
+/// The power that the text behind a name or a group is: `^`, then `-` or nothing, then one to four
+/// digits of value 1 to 4,096. Where nothing is written it is 1.
 pub(crate) fn read_power(text: &[u8]) -> Option<Power>
     ensures { result ≡ power text.now }
 {
