@@ -1,8 +1,8 @@
 -- A path backwards has as many moves and as many flips.
-use Rattle.std.proofs.Common.{◌≡◌, ◌+◌, ℕ, Bool, true, false, List, [], ◌∷◌, ◌++◌, length, map, reverse, refl, ap, ◌∙◌, sym, arith, add_comm}
+use Rattle.std.proofs.Common.{◌≡◌, ◌+◌, ℕ, Bool, true, false, List, [], ◌∷◌, ◌++◌, length, map, refl, ap, ◌∙◌, sym, arith, add_comm}
 use Rattle.std.proofs.lemmas.Grind.{common_steps}
 use Rattle.std.proofs.lemmas.List.{length-reverse, length-map, reverse-append}
-use Rattle.std.specs.Prelude.{count_by, not, if◌then◌else◌}
+use Rattle.std.specs.Prelude.{not, if◌then◌else◌}
 use Rattle.tri_atlas.specs.Moves.{Move, flip, unflip, relabel, back_of}
 use Rattle.tri_atlas.specs.Arena.{Arena, MoveHandle, step_of, back, entry_at}
 use Rattle.tri_atlas.specs.Paths.{is_flip}

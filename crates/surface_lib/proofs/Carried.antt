@@ -1,5 +1,5 @@
 -- Values in one target, carried to another: what holds of the parts of a word holds of the word.
-use Rattle.std.proofs.Common.{◌≡◌, ℕ, zero, suc, List, [], ◌∷◌, Option, Some, None, refl, ap, ◌∙◌, sym}
+use Rattle.std.proofs.Common.{◌≡◌, ℕ, zero, suc, List, [], ◌∷◌, Option, Some, None, ap, ◌∙◌}
 use Rattle.tri_atlas.specs.Arena.{MoveHandle}
 use Rattle.surface_lib.specs.Pieces.{Piece, empty, group, name, piece, pieces}
 use Rattle.surface_lib.specs.Powers.{power}

@@ -1,5 +1,5 @@
 -- A generator that is put into a list of generators.
-use Rattle.std.proofs.Common.{◌≡◌, Bool, true, false, List, [], ◌∷◌, subst, sym, All}
+use Rattle.std.proofs.Common.{Bool, true, false, List, [], ◌∷◌, All}
 use Rattle.std.specs.Prelude.{String, if◌then◌else◌}
 use Rattle.std.specs.declared.alloc.Global.{Global}
 use Rattle.std.proofs.lemmas.List.Elements.{All-head, All-tail, All-cons}

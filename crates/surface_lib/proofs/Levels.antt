@@ -1,5 +1,5 @@
 -- A level is the pieces of its text over the level inside.
-use Rattle.std.proofs.Common.{◌≡◌, ◌-◌, ℕ, zero, suc, List, Result, refl, ap, arith}
+use Rattle.std.proofs.Common.{◌≡◌, ◌-◌, ℕ, zero, suc, List, refl, ap, arith}
 use Rattle.surface_lib.specs.Pieces.{pieces}
 use Rattle.surface_lib.specs.Words.{Generator, Target, test_pieces, test_text, value_of_pieces, value_of_text}
 

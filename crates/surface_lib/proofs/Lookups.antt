@@ -8,7 +8,7 @@ use Rattle.std.specs.declared.alloc.Global.{Global}
 use Rattle.std.proofs.lemmas.List.Elements.{All-tail}
 use Rattle.tri_atlas.specs.Arena.{Arena}
 use Rattle.tri_atlas.specs.Paths.{MovePath}
-use Rattle.surface_lib.specs.Words.{Generator, moves_of}
+use Rattle.surface_lib.specs.Words.{moves_of}
 use Rattle.surface_lib.specs.Surfaces.{generator_of, generators_in, IsGenerator}
 
 pub passed_over : (t : List ℕ) (before : List (String Global × MovePath)) (e : String Global × MovePath)

@@ -1,9 +1,6 @@
 -- The counts of a name are those of its generator's path, forwards or backwards.
-use Rattle.std.proofs.Common.{◌≡◌, ◌<◌, ◌≤◌, ◌+◌, ◌-◌, ◌^◌, ℕ, Bool, true, false, List, length, map, min, refl, ap, ◌∙◌, sym, arith}
-use Rattle.std.proofs.lemmas.Grind.{common_steps}
-use Rattle.std.specs.Prelude.{count_by, if◌then◌else◌}
-use Rattle.tri_atlas.specs.Arena.{Arena, MoveHandle}
-use Rattle.surface_lib.specs.Words.{backwards}
+use Rattle.std.proofs.Common.{◌≡◌, ◌<◌, ◌^◌, ℕ, length, ap, ◌∙◌, sym, arith}
+use Rattle.tri_atlas.specs.Arena.{Arena}
 use Rattle.surface_lib.specs.Refusals.{flips_among}
 use Rattle.surface_lib.specs.inside.Counted.{capped, of_name}
 use Rattle.surface_lib.specs.inside.Found.{moves_of_named}

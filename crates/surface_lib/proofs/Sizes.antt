@@ -1,6 +1,6 @@
 -- The sizes of a word, counted in 128 bits, are right where they are looked at: the names of a text with few dots are
 -- below 2^128, and where there are few names, flips and moves are few too.
-use Rattle.std.proofs.Common.{◌≡◌, ◌≤◌, ◌<◌, ◌+◌, ◌-◌, ◌*◌, ◌^◌, ℕ, Bool, true, false, List, length, min, Option, None, Result, Ok, Err, refl, ap, ◌∙◌, sym, subst, arith, All}
+use Rattle.std.proofs.Common.{◌≡◌, ◌≤◌, ◌<◌, ◌+◌, ◌*◌, ◌^◌, ℕ, Bool, true, false, List, length, None, Result, Ok, Err, refl, ap, ◌∙◌, sym, subst, arith, All}
 use Rattle.std.proofs.lemmas.Grind.{common_steps}
 use Rattle.std.specs.Prelude.{nat_lt, if◌then◌else◌, String}
 use Rattle.std.specs.declared.alloc.Global.{Global}

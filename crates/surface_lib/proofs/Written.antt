@@ -1,12 +1,11 @@
 -- A word's names and moves together, and their counts in 128 bits.
-use Rattle.std.proofs.Common.{◌≡◌, ◌≤◌, ◌<◌, ◌+◌, ◌-◌, ◌*◌, ◌^◌, ℕ, zero, suc, Bool, true, false, List, [], ◌∷◌, ◌++◌, length, min, refl, ap, ◌∙◌, sym, arith, length-append}
-use Rattle.std.proofs.lemmas.Grind.{common_steps}
+use Rattle.std.proofs.Common.{◌≡◌, ◌+◌, ◌-◌, ◌*◌, ◌^◌, ℕ, zero, suc, List, [], ◌++◌, length, refl, ap, ◌∙◌, sym, arith, length-append}
 use Rattle.std.specs.Prelude.{if◌then◌else◌}
 use Rattle.std.specs.List.{repeat}
 use Rattle.tri_atlas.specs.Arena.{Arena, MoveHandle}
 use Rattle.surface_lib.specs.Words.{Generator, Target, moves_written, names_written, backwards, value_of_text}
 use Rattle.surface_lib.specs.Refusals.{flips_among}
-use Rattle.surface_lib.specs.inside.Counted.{capped, both, times, of_name, no_counts, counted}
+use Rattle.surface_lib.specs.inside.Counted.{capped, counted}
 use Rattle.surface_lib.specs.declared.counts.Counts.{Counts}
 use Rattle.surface_lib.specs.declared.power.Power.{Power}
 use Rattle.surface_lib.proofs.Backwards.{flips-append, flips-turned, length-turned}

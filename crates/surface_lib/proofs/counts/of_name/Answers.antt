@@ -1,4 +1,4 @@
-use Rattle.std.proofs.Common.{◌≡◌, ◌<◌, ◌^◌, ◌∙◌, length, ap, sym, subst, arith, Option, List}
+use Rattle.std.proofs.Common.{◌∙◌, length, ap, sym, arith, Option, List}
 use Rattle.tri_atlas.specs.Arena.{MoveHandle}
 use Rattle.surface_lib.specs.Words.{named_if}
 use Rattle.surface_lib.specs.inside.Counted.{counted}

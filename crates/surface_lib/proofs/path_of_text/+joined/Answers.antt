@@ -1,4 +1,4 @@
-use Rattle.std.proofs.Common.{◌≡◌, ◌∙◌, ap, List, arith}
+use Rattle.std.proofs.Common.{ap}
 use Rattle.tri_atlas.specs.Paths.{MovePath}
 use Rattle.surface_lib.specs.Words.{moves_written}
 use Rattle.surface_lib.specs.Surfaces.{generators_of}

@@ -1,7 +1,6 @@
-use Rattle.std.proofs.Common.{◌≡◌, ◌-◌, ◌+◌, ◌++◌, ◌∙◌, ap, List, arith}
+use Rattle.std.proofs.Common.{◌-◌, ◌+◌, ◌++◌, ◌∙◌, ap}
 use Rattle.std.specs.List.{repeat}
 use Rattle.tri_atlas.specs.Paths.{MovePath}
-use Rattle.tri_atlas.specs.Arena.{MoveHandle}
 use Rattle.surface_lib.proofs.Loops.{nothing_repeated, once_more, begins, loop_is_empty, loops_joined}
 use Rattle.surface_lib.proofs.path_of_text.repeated.Goals as goal
 

@@ -1,4 +1,4 @@
-use Rattle.std.proofs.Common.{◌≡◌, ◌+◌, ◌-◌, ◌≤◌, ◌∙◌, ap, List, ℕ, arith}
+use Rattle.std.proofs.Common.{◌-◌, ◌∙◌, ap, List, ℕ, arith}
 use Rattle.surface_lib.specs.Words.{test_pieces, test_text}
 use Rattle.surface_lib.specs.Surfaces.{generators_of}
 use Rattle.surface_lib.proofs.Levels.{test_of_level}

@@ -1,4 +1,4 @@
-use Rattle.std.proofs.Common.{◌≡◌, ◌≤◌, ◌<◌, ◌+◌, ◌^◌, ◌∙◌, ap, sym, subst, ℕ, arith}
+use Rattle.std.proofs.Common.{◌≤◌, ◌<◌, ◌+◌, ◌^◌, sym, subst, ℕ, arith}
 use Rattle.surface_lib.specs.Pieces.{dots}
 use Rattle.surface_lib.specs.Surfaces.{generators_of}
 use Rattle.surface_lib.proofs.Sizes.{counts_of_word, verdict}

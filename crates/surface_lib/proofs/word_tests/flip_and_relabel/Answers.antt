@@ -1,5 +1,3 @@
-use Rattle.tri_atlas.specs.Paths.{MovePath}
-use Rattle.surface_lib.specs.Surfaces.{IsLoop}
 use Rattle.surface_lib.proofs.word_tests.flip_and_relabel.Goals as goal
 
 pub returns-clause-kept : goal.returns-clause-kept

@@ -1,4 +1,4 @@
-use Rattle.std.proofs.Common.{◌≡◌, ◌∙◌, ap, sym, subst, List, All}
+use Rattle.std.proofs.Common.{◌∙◌, ap, sym, subst, All}
 use Rattle.surface_lib.specs.Surfaces.{is_generator_name, IsGenerator}
 use Rattle.surface_lib.proofs.Insertion.{inserted}
 use Rattle.surface_lib.proofs.surface.Surface.insert.Goals as goal
