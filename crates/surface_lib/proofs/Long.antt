@@ -1,4 +1,9 @@
--- A word of n names has at most n * 2^31 moves, since each generator's path has fewer than 2^31.
+-- A word of n names has at most n * 2^31 moves.
+--
+-- Each generator's path has fewer than 2^31 moves, and a path backwards has as many, so this holds of a name. It holds of
+-- the empty word, of two words behind each other, since names and moves are added, and of a power, since both are
+-- multiplied by the same number. So it holds of each piece and, by induction on the pieces and on the levels, of a text.
+-- The flips are some of the moves.
 use Rattle.std.proofs.Common.{◌≤◌, ◌+◌, ◌*◌, ℕ, zero, suc, Bool, true, false, cond, List, [], ◌∷◌, length, map, Option, Some, None, arith, length-append, All}
 use Rattle.std.proofs.Math.Nat.{mul-le-mul_left}
 use Rattle.std.proofs.lemmas.List.Elements.{All-head, All-tail}

@@ -1,5 +1,8 @@
--- The sizes of a word, counted in 128 bits, are right where they are looked at: the names of a text with few dots are
--- below 2^128, and where there are few names, flips and moves are few too.
+-- The sizes of a word, counted in 128 bits, are right where they are looked at.
+--
+-- The counts stop at 2^128 - 1. The names of a text with few dots are fewer, so their count is right, and with it the first
+-- test. Where it passes there are at most 4,096 names, so at most 2^43 moves and flips, and these counts are right too.
+-- So the tests of the counts give what the tests of the true sizes give: a refusal with its number, or the path.
 use Rattle.std.proofs.Common.{◌≡◌, ◌≤◌, ◌<◌, ◌+◌, ◌*◌, ◌^◌, ℕ, Bool, true, false, List, length, None, Result, Ok, Err, refl, ap, ◌∙◌, sym, subst, arith, All}
 use Rattle.std.proofs.lemmas.Grind.{common_steps}
 use Rattle.std.specs.Prelude.{nat_lt, if◌then◌else◌, String}

@@ -1,5 +1,10 @@
--- A word has at most 4,096 names for each of its dots and one more, once for each level: a power multiplies by at most
--- 4,096, and each piece has its own dots. So the number of names of a text with few dots never passes 128 bits.
+-- The number of names of a text with few dots is below 2^128.
+--
+-- Let a text be weighed by its dots and one more. Cut at the dots outside brackets, its pieces together weigh as much
+-- (the dots that are taken out make up for the pieces' own ones). The inside of a group weighs at most what the group
+-- weighs, and a name at least one. A power multiplies the names of a piece by at most 4,096. So, by induction on the
+-- levels, a text has at most 4,096^k names for each unit of its weight, where k is the number of levels; at nine levels
+-- and a weight of at most 4,096 these are 2^120.
 use Rattle.std.proofs.Common.{◌≡◌, ◌<◌, ◌≤◌, ◌+◌, ◌*◌, ◌^◌, ℕ, zero, suc, Bool, true, false, List, [], ◌∷◌, take, drop, Option, Some, None, refl, ap, ◌∙◌, sym, arith, zero-le}
 use Rattle.std.proofs.Math.Nat.{mul-le-mul, mul-le-mul_right}
 use Rattle.std.proofs.lemmas.Grind.{common_steps}
