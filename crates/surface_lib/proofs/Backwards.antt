@@ -1,5 +1,6 @@
 -- A path backwards has as many moves and as many flips.
-use Rattle.std.proofs.Common.{◌≡◌, ◌+◌, ℕ, Bool, true, false, List, [], ◌∷◌, ◌++◌, length, map, refl, ap, ◌∙◌, sym, arith, add_comm}
+use Rattle.std.proofs.Common.{◌≡◌, ◌+◌, ℕ, Bool, true, false, List, [], ◌∷◌, ◌++◌, length, map, refl, ap, ◌∙◌, sym}
+use Rattle.std.proofs.Common.{arith, add_comm}
 use Rattle.std.proofs.lemmas.Grind.{common_steps}
 use Rattle.std.proofs.lemmas.List.{length-reverse, length-map, reverse-append}
 use Rattle.std.specs.Prelude.{not, if◌then◌else◌}
@@ -11,7 +12,8 @@ use Rattle.surface_lib.specs.Refusals.{flips_among}
 
 -- ---- flips of joined lists
 
-pub flips-append : (arena : Arena) (u v : List MoveHandle) → flips_among arena (u ++ v) ≡ flips_among arena u + flips_among arena v
+pub flips-append : (arena : Arena) (u v : List MoveHandle) → flips_among arena (u ++ v)
+    ≡ flips_among arena u + flips_among arena v
 flips-append arena [] v = omega arith
 flips-append arena (m ∷ u) v = grind (arith, common_steps, flips-append arena u v)
 
@@ -37,7 +39,8 @@ length-backwards moves = length-reverse (map back moves) ∙ length-map moves ba
 flips-one : (arena : Arena) (m : MoveHandle) → flips_among arena (back m ∷ []) ≡ flips_among arena (m ∷ [])
 flips-one arena m = grind (arith, common_steps, is_flip_back arena m)
 
-pub flips-backwards : (arena : Arena) (moves : List MoveHandle) → flips_among arena (backwards moves) ≡ flips_among arena moves
+pub flips-backwards : (arena : Arena) (moves : List MoveHandle)
+    → flips_among arena (backwards moves) ≡ flips_among arena moves
 flips-backwards arena [] = refl
 flips-backwards arena (m ∷ u) =
     ap (flips_among arena) (reverse-append (back m ∷ []) (map back u))

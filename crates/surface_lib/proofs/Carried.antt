@@ -3,7 +3,8 @@ use Rattle.std.proofs.Common.{◌≡◌, ℕ, zero, suc, List, [], ◌∷◌, Op
 use Rattle.tri_atlas.specs.Arena.{MoveHandle}
 use Rattle.surface_lib.specs.Pieces.{Piece, empty, group, name, piece, pieces}
 use Rattle.surface_lib.specs.Powers.{power}
-use Rattle.surface_lib.specs.Words.{Generator, Target, moves_named, taken_if, named_if, value_of_piece, value_of_pieces, value_of_text}
+use Rattle.surface_lib.specs.Words.{Generator, Target, moves_named, taken_if, named_if, value_of_piece, value_of_pieces}
+use Rattle.surface_lib.specs.Words.{value_of_text}
 use Rattle.surface_lib.specs.declared.power.Power.{Power}
 
 -- ---- a map that keeps all that a target has

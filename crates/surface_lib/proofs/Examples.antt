@@ -1,5 +1,5 @@
--- Words over two generators, a with the moves 0 and 1 and b with the move 2, of which move 0 is a flip: what each text is
--- read as, by computation. They show the cases where a rule could be read in two ways.
+-- Words over two generators, a with the moves 0 and 1 and b with the move 2, of which move 0 is a flip: what each text
+-- is read as, by computation. They show the cases where a rule could be read in two ways.
 use Rattle.std.proofs.Common.{◌≡◌, ℕ, true, false, List, [], ◌∷◌, Result, Ok, Err, refl}
 use Rattle.std.specs.Prelude.{codes, pos}
 use Rattle.tri_atlas.specs.Moves.{flip}
@@ -7,7 +7,8 @@ use Rattle.tri_atlas.specs.Arena.{Arena, MoveHandle}
 use Rattle.surface_lib.specs.Words.{Generator}
 use Rattle.surface_lib.specs.Refusals.{reading}
 use Rattle.surface_lib.specs.declared.error.WordError.{WordError}
-use Rattle.surface_lib.specs.declared.error.WordError.TheVariants.{BadGroup, EmptyPart, UnknownName, BadPower, PartsOver}
+use Rattle.surface_lib.specs.declared.error.WordError.TheVariants.{BadGroup, EmptyPart, UnknownName, BadPower}
+use Rattle.surface_lib.specs.declared.error.WordError.TheVariants.{PartsOver}
 
 abbrev arena : Arena
 arena = record {

@@ -8,10 +8,12 @@ use Rattle.tri_atlas.specs.Arena.{Arena}
 use Rattle.tri_atlas.specs.Paths.{MovePath}
 use Rattle.surface_lib.specs.Surfaces.{IsGenerator}
 
-pub inserted : (eq : String Global → String Global → Bool) (arena : Arena) (es : List (String Global × MovePath)) (k : String Global) (v : MovePath)
+pub inserted : (eq : String Global → String Global → Bool) (arena : Arena) (es : List (String Global
+    × MovePath)) (k : String Global) (v : MovePath)
     → All (IsGenerator arena) es → IsGenerator arena (k, v) → All (IsGenerator arena) (insert_entry eq es k v)
 inserted eq arena [] k v all new = All-cons (IsGenerator arena) (k, v) [] new all
-inserted eq arena (e ∷ es) k v all new = by (eq k e.0) (inserted eq arena es k v (All-tail (IsGenerator arena) e es all) new)
+inserted eq arena (e ∷ es) k v all new = by (eq k e.0) (inserted eq arena es k v (All-tail (IsGenerator arena) e es
+    all) new)
   where
     by : (b : Bool) → All (IsGenerator arena) (insert_entry eq es k v)
         → All (IsGenerator arena) (if b then (e.0, v) ∷ es else e ∷ insert_entry eq es k v)
@@ -19,4 +21,5 @@ inserted eq arena (e ∷ es) k v all new = by (eq k e.0) (inserted eq arena es k
         All-cons (IsGenerator arena) (e.0, v) es
         (record { spelt = (All-head (IsGenerator arena) e es all).spelt; loop = new.loop; short = new.short })
         (All-tail (IsGenerator arena) e es all)
-    by false later = All-cons (IsGenerator arena) e (insert_entry eq es k v) (All-head (IsGenerator arena) e es all) later
+    by false later = All-cons (IsGenerator arena) e (insert_entry eq es k v) (All-head (IsGenerator arena) e es all)
+        later

@@ -20,4 +20,5 @@ counts_of_named arena n flips moves f m few short =
     capped_small flips few ∙ ap capped (f ∙ sym (flips-turned arena n.backwards n.path.now.moves)) in
     let moves_are : moves ≡ capped (length (moves_of_named n)) =
     capped_small moves short ∙ ap capped (m ∙ sym (length-turned n.backwards n.path.now.moves)) in
-    ap (λ (z : ℕ). count z moves) flips_are ∙ ap (λ (z : ℕ). count (capped (flips_among arena (moves_of_named n))) z) moves_are
+    ap (λ (z : ℕ). count z moves) flips_are ∙ ap (λ (z : ℕ). count (capped (flips_among arena (moves_of_named n))) z)
+    moves_are

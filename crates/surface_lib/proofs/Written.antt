@@ -1,5 +1,6 @@
 -- A word's names and moves together, and their counts in 128 bits.
-use Rattle.std.proofs.Common.{◌≡◌, ◌+◌, ◌-◌, ◌*◌, ◌^◌, ℕ, zero, suc, List, [], ◌++◌, length, refl, ap, ◌∙◌, sym, arith, length-append}
+use Rattle.std.proofs.Common.{◌≡◌, ◌+◌, ◌-◌, ◌*◌, ◌^◌, ℕ, zero, suc, List, [], ◌++◌, length, refl, ap, ◌∙◌, sym, arith}
+use Rattle.std.proofs.Common.{length-append}
 use Rattle.std.specs.Prelude.{if◌then◌else◌}
 use Rattle.std.specs.List.{repeat}
 use Rattle.tri_atlas.specs.Arena.{Arena, MoveHandle}
@@ -23,7 +24,11 @@ abbrev pub written : Target Written
 written = record {
   none = record { names = 0; moves = [] };
   joined = λ a b. record { names = a.names + b.names; moves = a.moves ++ b.moves };
-  taken = λ k a. record { names = k.times * a.names; moves = repeat k.times (if k.backwards then backwards a.moves else a.moves) };
+  taken = λ k a. record {
+    names = k.times * a.names;
+    moves = repeat k.times (if k.backwards then backwards a.moves else
+        a.moves);
+  };
   named = λ moves. record { names = 1; moves = moves };
 }
 
@@ -54,7 +59,12 @@ flips-repeat arena zero u = grind arith
 flips-repeat arena (suc n) u = flips-append arena u (repeat n u) ∙ grind (arith, flips-repeat arena n u)
 
 abbrev pub counts_are : Arena → Written → Counts
-counts_are arena w = record { names = capped w.names; flips = capped (flips_among arena w.moves); moves = capped (length w.moves) }
+counts_are arena w = record {
+  names = capped w.names;
+  flips = capped (flips_among arena w.moves);
+  moves = capped
+      (length w.moves);
+}
 
 three : (a b c d e f : ℕ) → a ≡ d → b ≡ e → c ≡ f
     → record { names = a; flips = b; moves = c } ≡ (let r : Counts = record { names = d; flips = e; moves = f } in r)
@@ -67,17 +77,21 @@ counts_carried arena = record {
   none = refl;
   joined = λ a b. three _ _ _ _ _ _
       (sym (min-add (2 ^ 128 - 1) a.names b.names))
-      (ap capped (flips-append arena a.moves b.moves) ∙ sym (min-add (2 ^ 128 - 1) (flips_among arena a.moves) (flips_among arena b.moves)))
+      (ap capped (flips-append arena a.moves b.moves) ∙ sym (min-add (2 ^ 128 - 1) (flips_among arena a.moves)
+      (flips_among arena b.moves)))
       (ap capped (length-append a.moves b.moves) ∙ sym (min-add (2 ^ 128 - 1) (length a.moves) (length b.moves)));
   taken = λ k a. three _ _ _ _ _ _
       (sym (min-mul (2 ^ 128 - 1) k.times a.names))
-      (ap capped (flips-repeat arena k.times (turned k a.moves) ∙ ap (λ (z : ℕ). k.times * z) (flips-turned arena k.backwards a.moves))
+      (ap capped (flips-repeat arena k.times (turned k a.moves)
+      ∙ ap (λ (z : ℕ). k.times * z) (flips-turned arena k.backwards a.moves))
       ∙ sym (min-mul (2 ^ 128 - 1) k.times (flips_among arena a.moves)))
-      (ap capped (length-repeat k.times (turned k a.moves) ∙ ap (λ (z : ℕ). k.times * z) (length-turned k.backwards a.moves))
+      (ap capped (length-repeat k.times (turned k a.moves)
+      ∙ ap (λ (z : ℕ). k.times * z) (length-turned k.backwards a.moves))
       ∙ sym (min-mul (2 ^ 128 - 1) k.times (length a.moves)));
   named = λ moves. refl;
 }
 
 pub counts_of_text : (arena : Arena) (generators : List Generator) (k : ℕ) (s : List ℕ)
     → counts_are arena (value_of_text written generators k s) ≡ value_of_text (counted arena) generators k s
-counts_of_text arena generators k s = carried_text written (counted arena) (counts_are arena) (counts_carried arena) generators k s
+counts_of_text arena generators k s = carried_text written (counted arena) (counts_are arena) (counts_carried arena)
+    generators k s

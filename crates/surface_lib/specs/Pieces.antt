@@ -1,5 +1,6 @@
 -- How a text is cut into pieces: at the dots that stand in no bracket.
-use Rattle.std.specs.Prelude.{ℕ, ◌+◌, ◌-◌, Bool, ◌&&◌, ◌||◌, ◌==◌, List, [], ◌∷◌, take, drop, count_by, Option, Some, None, if◌then◌else◌}
+use Rattle.std.specs.Prelude.{ℕ, ◌+◌, ◌-◌, Bool, ◌&&◌, ◌||◌, ◌==◌, List, [], ◌∷◌, take, drop}
+use Rattle.std.specs.Prelude.{count_by, Option, Some, None, if◌then◌else◌}
 
 -- brackets nest at most so deep
 abbrev pub depth_limit : ℕ

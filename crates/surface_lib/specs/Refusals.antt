@@ -1,11 +1,14 @@
 -- The path of a word, or the first refusal of its text.
-use Rattle.std.specs.Prelude.{ℕ, ◌+◌, nat_lt, List, map, length, count_by, Option, Some, None, Result, Ok, Err, if◌then◌else◌}
+use Rattle.std.specs.Prelude.{ℕ, ◌+◌, nat_lt, List, map, length, count_by, Option, Some, None}
+use Rattle.std.specs.Prelude.{Result, Ok, Err, if◌then◌else◌}
 use Rattle.tri_atlas.specs.Arena.{Arena, MoveHandle, step_of}
 use Rattle.tri_atlas.specs.Paths.{is_flip}
 use Rattle.surface_lib.specs.Pieces.{depth_limit, bad_bracket, dots}
-use Rattle.surface_lib.specs.Words.{Generator, test_text, value_of_text, moves_written, names_written}
+use Rattle.surface_lib.specs.Words.{Generator, test_text, value_of_text, moves_written}
+use Rattle.surface_lib.specs.Words.{names_written}
 use Rattle.surface_lib.specs.declared.error.WordError.{WordError}
-use Rattle.surface_lib.specs.declared.error.WordError.TheVariants.{BadGroup, WordTooLong, PartsOver, FlipsOver, MovesOver}
+use Rattle.surface_lib.specs.declared.error.WordError.TheVariants.{BadGroup, WordTooLong, PartsOver}
+use Rattle.surface_lib.specs.declared.error.WordError.TheVariants.{FlipsOver, MovesOver}
 
 -- the most pieces of a text, and names of a word with all powers written out
 abbrev pub part_limit : ℕ

@@ -1,5 +1,6 @@
 -- Words in named generators: the tests of a text, and the value that it is written for.
-use Rattle.std.specs.Prelude.{ℕ, zero, suc, ◌+◌, ◌*◌, Bool, ◌&&◌, nat_le, List, [], ◌∷◌, ◌++◌, map, reverse, Option, Some, None, Result, Ok, Err, if◌then◌else◌}
+use Rattle.std.specs.Prelude.{ℕ, zero, suc, ◌+◌, ◌*◌, Bool, ◌&&◌, nat_le, List, [], ◌∷◌, ◌++◌, map}
+use Rattle.std.specs.Prelude.{reverse, Option, Some, None, Result, Ok, Err, if◌then◌else◌}
 use Rattle.std.specs.List.{find, repeat}
 use Rattle.std.specs.Option.{option_map}
 use Rattle.std.specs.Str.{bytes_eq}
@@ -26,7 +27,8 @@ is_upper c = nat_le 65 c && nat_le c 90
 
 -- the moves of the first generator with this name
 abbrev pub moves_of : List ℕ → List Generator → Option (List MoveHandle)
-moves_of spelt generators = option_map (λ g. g.moves) (find (λ g. bytes_eq g.spelt spelt) generators)
+moves_of spelt generators = option_map (λ g. g.moves) (find (λ g. bytes_eq g.spelt spelt)
+    generators)
 
 -- the moves of a name; with the first letter in upper case it is the inverse
 abbrev pub moves_named : List Generator → List ℕ → Option (List MoveHandle)
@@ -111,7 +113,8 @@ value_of_pieces target generators inside v (q ∷ qs) =
 abbrev pub value_of_text : {V : Type 0} → Target V → List Generator → ℕ → List ℕ → V
 value_of_text target generators zero s = target.none
 value_of_text target generators (suc levels) s =
-    value_of_pieces target generators (λ u. value_of_text target generators levels u) target.none (pieces s)
+    value_of_pieces target generators (λ u. value_of_text target generators levels u) target.none
+    (pieces s)
 
 -- ---- the targets
 

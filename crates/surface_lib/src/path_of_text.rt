@@ -3,7 +3,8 @@ ghost use Rattle.std.specs.Prelude.{◌≡◌, IfOk, IfSome};
 ghost use Rattle.std.specs.List.{repeat};
 ghost use Rattle.surface_lib.specs.Pieces.{piece};
 ghost use Rattle.surface_lib.specs.Powers.{power};
-ghost use Rattle.surface_lib.specs.Words.{moves_written, taken_if, named_if, value_of_piece, value_of_text};
+ghost use Rattle.surface_lib.specs.Words.{moves_written, taken_if, named_if, value_of_piece};
+ghost use Rattle.surface_lib.specs.Words.{value_of_text};
 ghost use Rattle.surface_lib.specs.Surfaces.{generators_of, IsSurface, IsLoop};
 ghost use Rattle.surface_lib.specs.inside.Found.{moves_found};
 
@@ -85,7 +86,8 @@ fn path_of_name(alloc: Global, s: &Surface, named: Option<Named<'_>>) -> Result<
 fn taken(alloc: Global, s: &Surface, path: &Path, text: &[u8]) -> Result<Path, Memory>
     requires { IsLoop s.now.atlas path.now }
     ensures closed { IfOk result (IsLoop s.now.atlas) }
-    ensures moves { IfOk result (λ p. p.moves ≡ taken_if moves_written path.now.moves (power text.now)) }
+    ensures moves { IfOk result (λ p. p.moves ≡ taken_if moves_written path.now.moves (power
+        text.now)) }
 {
     match read_power(text) {
         Some(power) => times(alloc, s, path, power),

@@ -1,7 +1,8 @@
 //! How a text is cut into pieces.
 ghost use Rattle.std.specs.Prelude.{◌≡◌, ◌<◌, ◌≤◌, ◌+◌, ◌^◌, ◌==◌, ◌&&◌, ◌∷◌, length};
 ghost use Rattle.std.specs.Option.{option_map};
-ghost use Rattle.surface_lib.specs.Pieces.{is_bad, depth_after, bad_bracket, dots, parts, pieces, before, before_first, piece, group_behind, name_in};
+ghost use Rattle.surface_lib.specs.Pieces.{is_bad, depth_after, bad_bracket, dots, parts, pieces};
+ghost use Rattle.surface_lib.specs.Pieces.{before, before_first, piece, group_behind, name_in};
 ghost use Rattle.surface_lib.specs.inside.Cut.{seen, inside_length, parts_left, bytes_left};
 
 /// A piece of a text: nothing, a group, or a name; and behind it the text of a power.

@@ -8,7 +8,8 @@ pub test_text-loop-rest-init : goal.test_text-loop-rest-init
 test_text-loop-rest-init t c =
     let g = generators_of c.args.s.now in
     record {
-      left = ap (λ (z : List (List ℕ)). test_pieces g (λ n u. test_text g (c.args.levels - 1) n u) c.args.number z) c.pieces-rest.ensures.parts
+      left = ap (λ (z : List (List ℕ)). test_pieces g (λ n u. test_text g (c.args.levels - 1) n u) c.args.number z)
+          c.pieces-rest.ensures.parts
           ∙ test_of_level g c.args.levels c.args.number c.args.text.now c.if-levels-eq0.false;
       room = omega (arith, c.pieces-rest.ensures.size);
     }
