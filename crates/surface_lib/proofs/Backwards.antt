@@ -1,8 +1,9 @@
 -- A path backwards has as many moves and as many flips.
-use Rattle.std.proofs.Common.{◌≡◌, ◌+◌, ℕ, Bool, true, false, List, [], ◌∷◌, ◌++◌, length, map, reverse, refl, ap, ◌∙◌, sym, arith, add_comm}
+use Rattle.std.proofs.Common.{◌≡◌, ◌+◌, ℕ, Bool, true, false, List, [], ◌∷◌, ◌++◌, length, map, refl, ap, ◌∙◌, sym}
+use Rattle.std.proofs.Common.{arith, add_comm}
 use Rattle.std.proofs.lemmas.Grind.{common_steps}
 use Rattle.std.proofs.lemmas.List.{length-reverse, length-map, reverse-append}
-use Rattle.std.specs.Prelude.{count_by, not, if◌then◌else◌}
+use Rattle.std.specs.Prelude.{not, if◌then◌else◌}
 use Rattle.tri_atlas.specs.Moves.{Move, flip, unflip, relabel, back_of}
 use Rattle.tri_atlas.specs.Arena.{Arena, MoveHandle, step_of, back, entry_at}
 use Rattle.tri_atlas.specs.Paths.{is_flip}
@@ -11,7 +12,8 @@ use Rattle.surface_lib.specs.Refusals.{flips_among}
 
 -- ---- flips of joined lists
 
-pub flips-append : (arena : Arena) (u v : List MoveHandle) → flips_among arena (u ++ v) ≡ flips_among arena u + flips_among arena v
+pub flips-append : (arena : Arena) (u v : List MoveHandle) → flips_among arena (u ++ v)
+    ≡ flips_among arena u + flips_among arena v
 flips-append arena [] v = omega arith
 flips-append arena (m ∷ u) v = grind (arith, common_steps, flips-append arena u v)
 
@@ -37,7 +39,8 @@ length-backwards moves = length-reverse (map back moves) ∙ length-map moves ba
 flips-one : (arena : Arena) (m : MoveHandle) → flips_among arena (back m ∷ []) ≡ flips_among arena (m ∷ [])
 flips-one arena m = grind (arith, common_steps, is_flip_back arena m)
 
-pub flips-backwards : (arena : Arena) (moves : List MoveHandle) → flips_among arena (backwards moves) ≡ flips_among arena moves
+pub flips-backwards : (arena : Arena) (moves : List MoveHandle)
+    → flips_among arena (backwards moves) ≡ flips_among arena moves
 flips-backwards arena [] = refl
 flips-backwards arena (m ∷ u) =
     ap (flips_among arena) (reverse-append (back m ∷ []) (map back u))
@@ -46,3 +49,14 @@ flips-backwards arena (m ∷ u) =
     ∙ ap (λ (z : ℕ). flips_among arena u + z) (flips-one arena m)
     ∙ add_comm (flips_among arena u) (flips_among arena (m ∷ []))
     ∙ sym (flips-append arena (m ∷ []) u)
+
+-- ---- a path that may be turned
+
+pub flips-turned : (arena : Arena) (b : Bool) (u : List MoveHandle)
+    → flips_among arena (if b then backwards u else u) ≡ flips_among arena u
+flips-turned arena true u = flips-backwards arena u
+flips-turned arena false u = refl
+
+pub length-turned : (b : Bool) (u : List MoveHandle) → length (if b then backwards u else u) ≡ length u
+length-turned true u = length-backwards u
+length-turned false u = refl

@@ -1,6 +1,5 @@
 -- Sums and products that stop at a largest number.
-use Rattle.std.proofs.Common.{◌≡◌, ◌<◌, ◌≤◌, ◌+◌, ◌*◌, ℕ, zero, suc, min, refl, ap, ◌∙◌, arith}
-use Rattle.std.proofs.lemmas.Grind.{common_steps}
+use Rattle.std.proofs.Common.{◌≡◌, ◌+◌, ◌*◌, ℕ, zero, suc, min, arith}
 
 pub min-add : (most a b : ℕ) → min (min a most + min b most) most ≡ min (a + b) most
 min-add most a b = omega arith

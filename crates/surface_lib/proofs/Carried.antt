@@ -1,9 +1,10 @@
 -- Values in one target, carried to another: what holds of the parts of a word holds of the word.
-use Rattle.std.proofs.Common.{◌≡◌, ℕ, zero, suc, List, [], ◌∷◌, Option, Some, None, refl, ap, ◌∙◌, sym}
+use Rattle.std.proofs.Common.{◌≡◌, ℕ, zero, suc, List, [], ◌∷◌, Option, Some, None, ap, ◌∙◌}
 use Rattle.tri_atlas.specs.Arena.{MoveHandle}
 use Rattle.surface_lib.specs.Pieces.{Piece, empty, group, name, piece, pieces}
 use Rattle.surface_lib.specs.Powers.{power}
-use Rattle.surface_lib.specs.Words.{Generator, Target, moves_named, taken_if, named_if, value_of_piece, value_of_pieces, value_of_text}
+use Rattle.surface_lib.specs.Words.{Generator, Target, moves_named, taken_if, named_if, value_of_piece, value_of_pieces}
+use Rattle.surface_lib.specs.Words.{value_of_text}
 use Rattle.surface_lib.specs.declared.power.Power.{Power}
 
 -- ---- a map that keeps all that a target has
@@ -40,8 +41,8 @@ carried_pieces from to h c generators f g e [] v w is = is
 carried_pieces from to h c generators f g e (q ∷ qs) v w is =
     carried_pieces from to h c generators f g e qs _ _
     (c.joined v (value_of_piece from generators f (piece q))
-     ∙ ap (λ z. to.joined z (h (value_of_piece from generators f (piece q)))) is
-     ∙ ap (to.joined w) (carried_piece from to h c generators f g e (piece q)))
+    ∙ ap (λ z. to.joined z (h (value_of_piece from generators f (piece q)))) is
+    ∙ ap (to.joined w) (carried_piece from to h c generators f g e (piece q)))
 
 pub carried_text : {V W : Type 0} (from : Target V) (to : Target W) (h : V → W) → IsCarried from to h
     → (generators : List Generator) (levels : ℕ) (s : List ℕ)

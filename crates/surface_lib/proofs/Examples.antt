@@ -1,14 +1,14 @@
--- Words over two generators, a with the moves 0 and 1 and b with the move 2, of which move 0 is a flip: what each text is
--- read as, by computation. They show the cases where a rule could be read in two ways.
-use Rattle.std.proofs.Common.{◌≡◌, ℕ, Bool, true, false, List, [], ◌∷◌, Result, Ok, Err, refl}
-use Rattle.std.specs.Prelude.{codes, pos, ◌++◌}
-use Rattle.std.specs.List.{repeat}
-use Rattle.tri_atlas.specs.Moves.{flip, relabel}
+-- Words over two generators, a with the moves 0 and 1 and b with the move 2, of which move 0 is a flip: what each text
+-- is read as, by computation. They show the cases where a rule could be read in two ways.
+use Rattle.std.proofs.Common.{◌≡◌, ℕ, true, false, List, [], ◌∷◌, Result, Ok, Err, refl}
+use Rattle.std.specs.Prelude.{codes, pos}
+use Rattle.tri_atlas.specs.Moves.{flip}
 use Rattle.tri_atlas.specs.Arena.{Arena, MoveHandle}
 use Rattle.surface_lib.specs.Words.{Generator}
 use Rattle.surface_lib.specs.Refusals.{reading}
 use Rattle.surface_lib.specs.declared.error.WordError.{WordError}
-use Rattle.surface_lib.specs.declared.error.WordError.TheVariants.{BadGroup, WordTooLong, EmptyPart, UnknownName, BadPower, PartsOver, FlipsOver, MovesOver}
+use Rattle.surface_lib.specs.declared.error.WordError.TheVariants.{BadGroup, EmptyPart, UnknownName, BadPower}
+use Rattle.surface_lib.specs.declared.error.WordError.TheVariants.{PartsOver}
 
 abbrev arena : Arena
 arena = record {

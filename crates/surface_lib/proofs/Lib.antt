@@ -1,5 +1,6 @@
 pub mod Cuts
 pub mod Lookups
+pub mod Insertion
 pub mod Levels
 pub mod Backwards
 pub mod Capped

@@ -1,12 +1,17 @@
--- A word of n names has at most n * 2^31 moves, since each generator's path has fewer than 2^31.
-use Rattle.std.proofs.Common.{◌≡◌, ◌≤◌, ◌<◌, ◌+◌, ◌*◌, ◌^◌, ℕ, zero, suc, Bool, true, false, cond, List, [], ◌∷◌, ◌++◌, length, map, Option, Some, None, refl, ap, ◌∙◌, sym, subst, arith, length-append, All}
+-- A word of n names has at most n * 2^31 moves.
+--
+-- Each generator's path has fewer than 2^31 moves, and a path backwards has as many, so this holds of a name. It holds
+-- of the empty word, of two words behind each other, since names and moves are added, and of a power, since both are
+-- multiplied by the same number. So it holds of each piece and, by induction on the pieces and on the levels, of a
+-- text. The flips are some of the moves.
+use Rattle.std.proofs.Common.{◌≤◌, ◌+◌, ◌*◌, ℕ, zero, suc, Bool, true, false, cond, List, [], ◌∷◌, length, map, Option}
+use Rattle.std.proofs.Common.{Some, None, arith, length-append, All}
 use Rattle.std.proofs.Math.Nat.{mul-le-mul_left}
-use Rattle.std.proofs.lemmas.Grind.{common_steps}
 use Rattle.std.proofs.lemmas.List.Elements.{All-head, All-tail}
-use Rattle.std.specs.Prelude.{count_by, if◌then◌else◌, String, string_bytes}
+use Rattle.std.specs.Prelude.{if◌then◌else◌, String, string_bytes}
 use Rattle.std.proofs.lemmas.List.Sums.{count_by-le-length}
 use Rattle.std.proofs.lemmas.List.{length-map}
-use Rattle.std.specs.List.{repeat, find}
+use Rattle.std.specs.List.{find}
 use Rattle.std.specs.Option.{option_map}
 use Rattle.std.specs.Str.{bytes_eq}
 use Rattle.std.specs.declared.alloc.Global.{Global}
@@ -14,12 +19,13 @@ use Rattle.tri_atlas.specs.Arena.{Arena, MoveHandle, step_of}
 use Rattle.tri_atlas.specs.Paths.{MovePath, is_flip}
 use Rattle.surface_lib.specs.Pieces.{Piece, empty, group, name, piece, pieces}
 use Rattle.surface_lib.specs.Powers.{power}
-use Rattle.surface_lib.specs.Words.{Generator, moves_of, moves_named, is_upper, backwards, taken_if, named_if, value_of_piece, value_of_pieces, value_of_text}
+use Rattle.surface_lib.specs.Words.{Generator, moves_of, moves_named, is_upper, backwards, taken_if, named_if}
+use Rattle.surface_lib.specs.Words.{value_of_piece, value_of_pieces, value_of_text}
 use Rattle.surface_lib.specs.Refusals.{flips_among}
 use Rattle.surface_lib.specs.Surfaces.{generators_in, generator_of, IsGenerator}
 use Rattle.surface_lib.specs.declared.power.Power.{Power}
-use Rattle.surface_lib.proofs.Backwards.{length-backwards}
-use Rattle.surface_lib.proofs.Written.{Written, written, length-turned, length-repeat}
+use Rattle.surface_lib.proofs.Backwards.{length-backwards, length-turned}
+use Rattle.surface_lib.proofs.Written.{Written, written, length-repeat}
 
 -- ---- names
 
@@ -34,7 +40,8 @@ short_found t arena (e ∷ es) all =
     by (bytes_eq (string_bytes e.0) t) (short_found t arena es (All-tail (IsGenerator arena) e es all))
   where
     by : (b : Bool) → IsShort (moves_of t (generators_in es))
-        → IsShort (option_map (λ g. g.moves) (cond b (Some (generator_of e)) (find (λ g. bytes_eq g.spelt t) (generators_in es))))
+        → IsShort (option_map (λ g. g.moves) (cond b (Some (generator_of e)) (find (λ g. bytes_eq g.spelt t)
+        (generators_in es))))
     by true later = let short = (All-head (IsGenerator arena) e es all).short in omega (arith, short)
     by false later = later
 
@@ -47,7 +54,8 @@ short_named : (arena : Arena) (es : List (String Global × MovePath)) → All (I
 short_named arena es all [] = tt
 short_named arena es all (c ∷ s) = by (is_upper c)
   where
-    by : (b : Bool) → IsShort (if b then option_map backwards (moves_of ((c + 32) ∷ s) (generators_in es)) else moves_of (c ∷ s) (generators_in es))
+    by : (b : Bool) → IsShort (if b then option_map backwards (moves_of ((c + 32) ∷ s) (generators_in es)) else
+        moves_of (c ∷ s) (generators_in es))
     by true = short_backwards (moves_of ((c + 32) ∷ s) (generators_in es)) (short_found ((c + 32) ∷ s) arena es all)
     by false = short_found (c ∷ s) arena es all
 
@@ -86,10 +94,13 @@ few_piece : (generators : List Generator) → ((s : List ℕ) → IsShort (moves
 few_piece generators short f inside empty = few_none
 few_piece generators short f inside (group s k) = few_taken_if (f s) (power k) (inside s)
 few_piece generators short f inside (name s k) =
-    few_taken_if (named_if written (moves_named generators s)) (power k) (few_named (moves_named generators s) (short s))
+    few_taken_if (named_if written (moves_named generators s)) (power k) (few_named (moves_named generators s) (short
+    s))
 
-few_pieces : (generators : List Generator) → ((s : List ℕ) → IsShort (moves_named generators s)) → (f : List ℕ → Written)
-    → ((s : List ℕ) → IsFew (f s)) → (qs : List (List ℕ)) (v : Written) → IsFew v → IsFew (value_of_pieces written generators f v qs)
+few_pieces : (generators : List Generator) → ((s : List ℕ) → IsShort (moves_named generators s)) → (f : List ℕ
+    → Written)
+    → ((s : List ℕ) → IsFew (f s)) → (qs : List (List ℕ)) (v : Written) → IsFew v
+    → IsFew (value_of_pieces written generators f v qs)
 few_pieces generators short f inside [] v p = p
 few_pieces generators short f inside (q ∷ qs) v p =
     few_pieces generators short f inside qs (written.joined v (value_of_piece written generators f (piece q)))
@@ -99,13 +110,20 @@ few_text : (generators : List Generator) → ((s : List ℕ) → IsShort (moves_
     → IsFew (value_of_text written generators k s)
 few_text generators short zero s = few_none
 few_text generators short (suc k) s =
-    few_pieces generators short (value_of_text written generators k) (few_text generators short k) (pieces s) written.none few_none
+    few_pieces generators short (value_of_text written generators k) (few_text generators short k) (pieces s)
+    written.none few_none
 
-pub moves_bound : (arena : Arena) (es : List (String Global × MovePath)) → All (IsGenerator arena) es → (k : ℕ) (s : List ℕ)
+pub moves_bound : (arena : Arena) (es : List (String Global × MovePath)) → All (IsGenerator arena) es
+    → (k : ℕ) (s : List ℕ)
     → let w : Written = value_of_text written (generators_in es) k s in length w.moves ≤ w.names * 2147483648
 unfolding IsFew
 moves_bound arena es all k s = few_text (generators_in es) (short_named arena es all) k s
 
 pub flips_bound : (arena : Arena) (moves : List MoveHandle) → flips_among arena moves ≤ length moves
 flips_bound arena moves =
-    let few = count_by-le-length is_flip (map (step_of arena) moves) in omega (arith, few, length-map moves (step_of arena))
+    let few = count_by-le-length is_flip (map (step_of arena) moves) in omega (
+      arith,
+      few,
+      length-map moves (step_of
+          arena),
+    )

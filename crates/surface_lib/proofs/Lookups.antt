@@ -8,7 +8,7 @@ use Rattle.std.specs.declared.alloc.Global.{Global}
 use Rattle.std.proofs.lemmas.List.Elements.{All-tail}
 use Rattle.tri_atlas.specs.Arena.{Arena}
 use Rattle.tri_atlas.specs.Paths.{MovePath}
-use Rattle.surface_lib.specs.Words.{Generator, moves_of}
+use Rattle.surface_lib.specs.Words.{moves_of}
 use Rattle.surface_lib.specs.Surfaces.{generator_of, generators_in, IsGenerator}
 
 pub passed_over : (t : List ℕ) (before : List (String Global × MovePath)) (e : String Global × MovePath)
@@ -16,8 +16,10 @@ pub passed_over : (t : List ℕ) (before : List (String Global × MovePath)) (e 
     → moves_of t (generators_in before) ≡ moves_of t (generators_in es)
 passed_over t before e es is h =
     ap (λ (z : List (String Global × MovePath)). moves_of t (generators_in z)) is
-    ∙ ap (λ (b : Bool). option_map (λ g. g.moves) (cond b (Some (generator_of e)) (find (λ g. bytes_eq g.spelt t) (generators_in es)))) h
+    ∙ ap (λ (b : Bool). option_map (λ g. g.moves) (cond b (Some (generator_of e)) (find (λ g. bytes_eq g.spelt t)
+    (generators_in es)))) h
 
 pub generators_behind : (arena : Arena) (before : List (String Global × MovePath)) (e : String Global × MovePath)
-    (es : List (String Global × MovePath)) → before ≡ e ∷ es → All (IsGenerator arena) before → All (IsGenerator arena) es
+    (es : List (String Global × MovePath)) → before ≡ e ∷ es → All (IsGenerator arena) before
+    → All (IsGenerator arena) es
 generators_behind arena before e es is all = All-tail (IsGenerator arena) e es (subst (All (IsGenerator arena)) is all)

@@ -1,5 +1,6 @@
 -- Paths from the base to the base, one after another.
-use Rattle.std.proofs.Common.{◌≡◌, ◌-◌, ◌+◌, ◌<◌, ℕ, zero, suc, List, [], ◌∷◌, ◌++◌, length, Bool, true, refl, ap, ◌∙◌, sym, subst, arith, append_assoc}
+use Rattle.std.proofs.Common.{◌≡◌, ◌-◌, ◌+◌, ◌<◌, ℕ, zero, suc, List, [], ◌∷◌, ◌++◌, length, true, refl, ap, ◌∙◌, sym}
+use Rattle.std.proofs.Common.{subst, arith, append_assoc}
 use Rattle.std.specs.Prelude.{◌==◌}
 use Rattle.std.specs.List.{repeat}
 use Rattle.tri_atlas.specs.Arena.{Arena, MoveHandle, IsTriIn}
@@ -17,17 +18,21 @@ loop_at_base arena b is here = record {
   end = is;
 }
 
-pub loop_is_empty : (arena : Arena) (b : ℕ) (path : MovePath) → path ≡ empty_path b → b ≡ 0 → IsTriIn arena b → IsLoop arena path
+pub loop_is_empty : (arena : Arena) (b : ℕ) (path : MovePath) → path ≡ empty_path b → b ≡ 0 → IsTriIn arena b
+    → IsLoop arena path
 loop_is_empty arena b path e is here = subst (IsLoop arena) (sym e) (loop_at_base arena b is here)
 
 -- ---- the first pieces of a level
 
-pub value_begins : {V : Type 0} (target : Target V) (generators : List Generator) (levels : ℕ) (s : List ℕ) (v : V) (qs : List (List ℕ))
+pub value_begins : {V : Type 0} (target : Target V) (generators : List Generator) (levels : ℕ) (s : List ℕ) (v : V) (qs
+    : List (List ℕ))
     → v ≡ target.none → qs ≡ pieces s → (levels ≡ 0 → ⊥)
-    → value_of_pieces target generators (value_of_text target generators (levels - 1)) v qs ≡ value_of_text target generators levels s
+    → value_of_pieces target generators (value_of_text target generators (levels - 1)) v qs
+    ≡ value_of_text target generators levels s
 value_begins {V} target generators levels s v qs none all some =
     ap (λ (z : V). value_of_pieces target generators (value_of_text target generators (levels - 1)) z qs) none
-    ∙ ap (λ (z : List (List ℕ)). value_of_pieces target generators (value_of_text target generators (levels - 1)) target.none z) all
+    ∙ ap (λ (z : List (List ℕ)). value_of_pieces target generators (value_of_text target generators (levels - 1))
+    target.none z) all
     ∙ value_of_level target generators levels s some
 
 -- ---- repeated
@@ -56,7 +61,8 @@ begins n moves so_far e =
     ap (λ (z : List MoveHandle). z ++ repeat (n - 0) moves) e ∙ ap (λ (z : ℕ). repeat z moves) same
 
 -- one loop after another
-pub loops_joined : (arena : Arena) (p q r : MovePath) → r ≡ joined p q → IsPathIn arena r → IsLoop arena p → IsLoop arena q → IsLoop arena r
+pub loops_joined : (arena : Arena) (p q r : MovePath) → r ≡ joined p q → IsPathIn arena r → IsLoop arena p
+    → IsLoop arena q → IsLoop arena r
 loops_joined arena p q r e within a b = record {
   within = within;
   start = ap (λ (z : MovePath). z.start) e ∙ a.start;

@@ -1,24 +1,12 @@
 -- The counts of a name are those of its generator's path, forwards or backwards.
-use Rattle.std.proofs.Common.{◌≡◌, ◌<◌, ◌≤◌, ◌+◌, ◌-◌, ◌^◌, ℕ, Bool, true, false, List, length, map, min, refl, ap, ◌∙◌, sym, arith}
-use Rattle.std.proofs.lemmas.Grind.{common_steps}
-use Rattle.std.specs.Prelude.{count_by, if◌then◌else◌}
-use Rattle.tri_atlas.specs.Arena.{Arena, MoveHandle}
-use Rattle.surface_lib.specs.Words.{backwards}
+use Rattle.std.proofs.Common.{◌≡◌, ◌<◌, ◌^◌, ℕ, length, ap, ◌∙◌, sym, arith}
+use Rattle.tri_atlas.specs.Arena.{Arena}
 use Rattle.surface_lib.specs.Refusals.{flips_among}
 use Rattle.surface_lib.specs.inside.Counted.{capped, of_name}
 use Rattle.surface_lib.specs.inside.Found.{moves_of_named}
 use Rattle.surface_lib.specs.declared.counts.Counts.{Counts}
 use Rattle.surface_lib.specs.declared.names.Named.{Named}
-use Rattle.surface_lib.proofs.Backwards.{length-backwards, flips-backwards}
-
-
-same_flips : (arena : Arena) (b : Bool) (moves : List MoveHandle) → flips_among arena (if b then backwards moves else moves) ≡ flips_among arena moves
-same_flips arena true moves = flips-backwards arena moves
-same_flips arena false moves = refl
-
-same_length : (b : Bool) (moves : List MoveHandle) → length (if b then backwards moves else moves) ≡ length moves
-same_length true moves = length-backwards moves
-same_length false moves = refl
+use Rattle.surface_lib.proofs.Backwards.{flips-turned, length-turned}
 
 capped_small : (n : ℕ) → n < 2 ^ 64 → n ≡ capped n
 capped_small n small = omega arith
@@ -29,7 +17,8 @@ pub counts_of_named : (arena : Arena) (n : Named) (flips moves : ℕ) → flips 
 counts_of_named arena n flips moves f m few short =
     let count : ℕ → ℕ → Counts = λ a b. record { names = 1; flips = a; moves = b } in
     let flips_are : flips ≡ capped (flips_among arena (moves_of_named n)) =
-        capped_small flips few ∙ ap capped (f ∙ sym (same_flips arena n.backwards n.path.now.moves)) in
+    capped_small flips few ∙ ap capped (f ∙ sym (flips-turned arena n.backwards n.path.now.moves)) in
     let moves_are : moves ≡ capped (length (moves_of_named n)) =
-        capped_small moves short ∙ ap capped (m ∙ sym (same_length n.backwards n.path.now.moves)) in
-    ap (λ (z : ℕ). count z moves) flips_are ∙ ap (λ (z : ℕ). count (capped (flips_among arena (moves_of_named n))) z) moves_are
+    capped_small moves short ∙ ap capped (m ∙ sym (length-turned n.backwards n.path.now.moves)) in
+    ap (λ (z : ℕ). count z moves) flips_are ∙ ap (λ (z : ℕ). count (capped (flips_among arena (moves_of_named n))) z)
+    moves_are

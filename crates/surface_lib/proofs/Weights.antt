@@ -1,13 +1,21 @@
--- A word has at most 4,096 names for each of its dots and one more, once for each level: a power multiplies by at most
--- 4,096, and each piece has its own dots. So the number of names of a text with few dots never passes 128 bits.
-use Rattle.std.proofs.Common.{◌≡◌, ◌<◌, ◌≤◌, ◌+◌, ◌*◌, ◌^◌, ℕ, zero, suc, Bool, true, false, List, [], ◌∷◌, take, drop, Option, Some, None, refl, ap, ◌∙◌, sym, subst, arith, zero-le}
+-- The number of names of a text with few dots is below 2^128.
+--
+-- Let a text be weighed by its dots and one more. Cut at the dots outside brackets, its pieces together weigh as much
+-- (the dots that are taken out make up for the pieces' own ones). The inside of a group weighs at most what the group
+-- weighs, and a name at least one. A power multiplies the names of a piece by at most 4,096. So, by induction on the
+-- levels, a text has at most 4,096^k names for each unit of its weight, where k is the number of levels; at nine levels
+-- and a weight of at most 4,096 these are 2^120.
+use Rattle.std.proofs.Common.{◌≡◌, ◌<◌, ◌≤◌, ◌+◌, ◌*◌, ◌^◌, ℕ, zero, suc, Bool, true, false, List, [], ◌∷◌, take, drop}
+use Rattle.std.proofs.Common.{Option, Some, None, refl, ap, ◌∙◌, sym, arith, zero-le}
 use Rattle.std.proofs.Math.Nat.{mul-le-mul, mul-le-mul_right}
 use Rattle.std.proofs.lemmas.Grind.{common_steps}
 use Rattle.std.specs.Prelude.{◌==◌, ◌&&◌, if◌then◌else◌}
 use Rattle.tri_atlas.specs.Arena.{MoveHandle}
-use Rattle.surface_lib.specs.Pieces.{open_bracket, close_bracket, dot, dots, depth_after, before, parts, pieces, in_front, piece, group_behind, name_in, before_first, power_sign}
+use Rattle.surface_lib.specs.Pieces.{open_bracket, close_bracket, dot, dots, depth_after, before, parts, pieces}
+use Rattle.surface_lib.specs.Pieces.{in_front, piece, group_behind, name_in, before_first, power_sign}
 use Rattle.surface_lib.specs.Powers.{power}
-use Rattle.surface_lib.specs.Words.{Generator, names_written, moves_named, taken_if, named_if, value_of_piece, value_of_pieces, value_of_text}
+use Rattle.surface_lib.specs.Words.{Generator, names_written, moves_named, taken_if, named_if, value_of_piece}
+use Rattle.surface_lib.specs.Words.{value_of_pieces, value_of_text}
 use Rattle.surface_lib.specs.declared.power.Power.{Power}
 use Rattle.surface_lib.proofs.Small.{IsSmall, power_small}
 
@@ -27,7 +35,8 @@ dots-cons c s = by (c == dot) refl
     by true e = grind (arith, common_steps, e)
     by false e = grind (arith, common_steps, e)
 
-front_weight : (c n : ℕ) (rest : List (List ℕ)) → weight rest ≡ n + 1 → weight (in_front c rest) ≡ one (c == dot) + n + 1
+front_weight : (c n : ℕ) (rest : List (List ℕ)) → weight rest ≡ n + 1
+    → weight (in_front c rest) ≡ one (c == dot) + n + 1
 front_weight c n [] e = absurd (omega (arith, e))
 front_weight c n (q ∷ qs) e = omega (arith, e, dots-cons c q)
 
@@ -36,13 +45,17 @@ parts_weight d [] = refl
 parts_weight d (c ∷ s) = by (c == dot) (d == 0) refl (parts_weight (depth_after d c) s)
   where
     by : (b e : Bool) → (c == dot) ≡ b → weight (parts (depth_after d c) s) ≡ dots s + 1
-        → weight (if b && e then [] ∷ parts (depth_after d c) s else in_front c (parts (depth_after d c) s)) ≡ dots (c ∷ s) + 1
+        → weight (if b && e then [] ∷ parts (depth_after d c) s else in_front c (parts (depth_after d c) s))
+        ≡ dots (c ∷ s) + 1
     by true true h later =
         let one_more : dots (c ∷ s) ≡ 1 + dots s = dots-cons c s ∙ ap (λ (z : Bool). (if z then 1 else 0) + dots s) h in
         omega (arith, later, one_more)
-    by true false h later = front_weight c (dots s) (parts (depth_after d c) s) later ∙ ap (λ (z : ℕ). z + 1) (sym (dots-cons c s))
-    by false true h later = front_weight c (dots s) (parts (depth_after d c) s) later ∙ ap (λ (z : ℕ). z + 1) (sym (dots-cons c s))
-    by false false h later = front_weight c (dots s) (parts (depth_after d c) s) later ∙ ap (λ (z : ℕ). z + 1) (sym (dots-cons c s))
+    by true false h later = front_weight c (dots s) (parts (depth_after d c) s) later
+        ∙ ap (λ (z : ℕ). z + 1) (sym (dots-cons c s))
+    by false true h later = front_weight c (dots s) (parts (depth_after d c) s) later
+        ∙ ap (λ (z : ℕ). z + 1) (sym (dots-cons c s))
+    by false false h later = front_weight c (dots s) (parts (depth_after d c) s) later
+        ∙ ap (λ (z : ℕ). z + 1) (sym (dots-cons c s))
 
 pieces_weight : (s : List ℕ) → weight (pieces s) ≤ dots s + 1
 pieces_weight [] = omega arith
@@ -70,7 +83,8 @@ at_least_one : (k : ℕ) → 1 ≤ scale k
 at_least_one zero = omega arith
 at_least_one (suc k) = omega (arith, at_least_one k)
 
-taken_bound : (n d e p : ℕ) (k : Option Power) → IsSmall k → n ≤ d * p → d ≤ e → taken_if names_written n k ≤ e * (4096 * p)
+taken_bound : (n d e p : ℕ) (k : Option Power) → IsSmall k → n ≤ d * p → d ≤ e
+    → taken_if names_written n k ≤ e * (4096 * p)
 taken_bound n d e p None small names more = zero-le
 taken_bound n d e p (Some k) small names more = scaled k.times n d e p small names more
 
@@ -85,9 +99,11 @@ piece_bound generators f k inside (c ∷ s) = by (c == open_bracket)
   where
     group_dots : dots (take (before close_bracket 0 s) s) + 1 ≤ dots (c ∷ s) + 1
     group_dots = omega (arith, take_dots (before close_bracket 0 s) s, dots-cons c s)
+
     by : (b : Bool) → value_of_piece names_written generators f (if b then group_behind s else name_in (c ∷ s))
         ≤ (dots (c ∷ s) + 1) * (4096 * scale k)
-    by true = taken_bound _ (dots (take (before close_bracket 0 s) s) + 1) _ (scale k) (power (drop (before close_bracket 0 s + 1) s))
+    by true = taken_bound _ (dots (take (before close_bracket 0 s) s) + 1) _ (scale k) (power (drop (before
+        close_bracket 0 s + 1) s))
         (power_small (drop (before close_bracket 0 s + 1) s)) (inside (take (before close_bracket 0 s) s)) group_dots
     by false =
         let n : ℕ = before_first power_sign (c ∷ s) in
@@ -106,9 +122,10 @@ pub names_bound : (generators : List Generator) (k : ℕ) (s : List ℕ)
     → value_of_text names_written generators k s ≤ (dots s + 1) * scale k
 names_bound generators zero s = zero-le
 names_bound generators (suc k) s =
-    let all = pieces_bound generators (value_of_text names_written generators k) k (names_bound generators k) (pieces s) 0 in
+    let all = pieces_bound generators (value_of_text names_written generators k) k (names_bound generators k) (pieces
+    s) 0 in
     let few : weight (pieces s) * (4096 * scale k) ≤ (dots s + 1) * (4096 * scale k) =
-        mul-le-mul_right (4096 * scale k) (pieces_weight s) in
+    mul-le-mul_right (4096 * scale k) (pieces_weight s) in
     omega (arith, all, few)
 
 -- with few dots the number of names is below 2^128

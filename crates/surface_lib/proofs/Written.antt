@@ -1,15 +1,15 @@
 -- A word's names and moves together, and their counts in 128 bits.
-use Rattle.std.proofs.Common.{◌≡◌, ◌≤◌, ◌<◌, ◌+◌, ◌-◌, ◌*◌, ◌^◌, ℕ, zero, suc, Bool, true, false, List, [], ◌∷◌, ◌++◌, length, min, refl, ap, ◌∙◌, sym, arith, length-append}
-use Rattle.std.proofs.lemmas.Grind.{common_steps}
+use Rattle.std.proofs.Common.{◌≡◌, ◌+◌, ◌-◌, ◌*◌, ◌^◌, ℕ, zero, suc, List, [], ◌++◌, length, refl, ap, ◌∙◌, sym, arith}
+use Rattle.std.proofs.Common.{length-append}
 use Rattle.std.specs.Prelude.{if◌then◌else◌}
 use Rattle.std.specs.List.{repeat}
 use Rattle.tri_atlas.specs.Arena.{Arena, MoveHandle}
 use Rattle.surface_lib.specs.Words.{Generator, Target, moves_written, names_written, backwards, value_of_text}
 use Rattle.surface_lib.specs.Refusals.{flips_among}
-use Rattle.surface_lib.specs.inside.Counted.{capped, both, times, of_name, no_counts, counted}
+use Rattle.surface_lib.specs.inside.Counted.{capped, counted}
 use Rattle.surface_lib.specs.declared.counts.Counts.{Counts}
 use Rattle.surface_lib.specs.declared.power.Power.{Power}
-use Rattle.surface_lib.proofs.Backwards.{flips-append, flips-backwards, length-backwards}
+use Rattle.surface_lib.proofs.Backwards.{flips-append, flips-turned, length-turned}
 use Rattle.surface_lib.proofs.Capped.{min-add, min-mul}
 use Rattle.surface_lib.proofs.Carried.{IsCarried, carried_text}
 
@@ -24,7 +24,11 @@ abbrev pub written : Target Written
 written = record {
   none = record { names = 0; moves = [] };
   joined = λ a b. record { names = a.names + b.names; moves = a.moves ++ b.moves };
-  taken = λ k a. record { names = k.times * a.names; moves = repeat k.times (if k.backwards then backwards a.moves else a.moves) };
+  taken = λ k a. record {
+    names = k.times * a.names;
+    moves = repeat k.times (if k.backwards then backwards a.moves else
+        a.moves);
+  };
   named = λ moves. record { names = 1; moves = moves };
 }
 
@@ -54,16 +58,13 @@ flips-repeat : (arena : Arena) (n : ℕ) (u : List MoveHandle) → flips_among a
 flips-repeat arena zero u = grind arith
 flips-repeat arena (suc n) u = flips-append arena u (repeat n u) ∙ grind (arith, flips-repeat arena n u)
 
-flips-turned : (arena : Arena) (b : Bool) (u : List MoveHandle) → flips_among arena (if b then backwards u else u) ≡ flips_among arena u
-flips-turned arena true u = flips-backwards arena u
-flips-turned arena false u = refl
-
-pub length-turned : (b : Bool) (u : List MoveHandle) → length (if b then backwards u else u) ≡ length u
-length-turned true u = length-backwards u
-length-turned false u = refl
-
 abbrev pub counts_are : Arena → Written → Counts
-counts_are arena w = record { names = capped w.names; flips = capped (flips_among arena w.moves); moves = capped (length w.moves) }
+counts_are arena w = record {
+  names = capped w.names;
+  flips = capped (flips_among arena w.moves);
+  moves = capped
+      (length w.moves);
+}
 
 three : (a b c d e f : ℕ) → a ≡ d → b ≡ e → c ≡ f
     → record { names = a; flips = b; moves = c } ≡ (let r : Counts = record { names = d; flips = e; moves = f } in r)
@@ -75,18 +76,22 @@ counts_carried : (arena : Arena) → IsCarried written (counted arena) (counts_a
 counts_carried arena = record {
   none = refl;
   joined = λ a b. three _ _ _ _ _ _
-    (sym (min-add (2 ^ 128 - 1) a.names b.names))
-    (ap capped (flips-append arena a.moves b.moves) ∙ sym (min-add (2 ^ 128 - 1) (flips_among arena a.moves) (flips_among arena b.moves)))
-    (ap capped (length-append a.moves b.moves) ∙ sym (min-add (2 ^ 128 - 1) (length a.moves) (length b.moves)));
+      (sym (min-add (2 ^ 128 - 1) a.names b.names))
+      (ap capped (flips-append arena a.moves b.moves) ∙ sym (min-add (2 ^ 128 - 1) (flips_among arena a.moves)
+      (flips_among arena b.moves)))
+      (ap capped (length-append a.moves b.moves) ∙ sym (min-add (2 ^ 128 - 1) (length a.moves) (length b.moves)));
   taken = λ k a. three _ _ _ _ _ _
-    (sym (min-mul (2 ^ 128 - 1) k.times a.names))
-    (ap capped (flips-repeat arena k.times (turned k a.moves) ∙ ap (λ (z : ℕ). k.times * z) (flips-turned arena k.backwards a.moves))
-     ∙ sym (min-mul (2 ^ 128 - 1) k.times (flips_among arena a.moves)))
-    (ap capped (length-repeat k.times (turned k a.moves) ∙ ap (λ (z : ℕ). k.times * z) (length-turned k.backwards a.moves))
-     ∙ sym (min-mul (2 ^ 128 - 1) k.times (length a.moves)));
+      (sym (min-mul (2 ^ 128 - 1) k.times a.names))
+      (ap capped (flips-repeat arena k.times (turned k a.moves)
+      ∙ ap (λ (z : ℕ). k.times * z) (flips-turned arena k.backwards a.moves))
+      ∙ sym (min-mul (2 ^ 128 - 1) k.times (flips_among arena a.moves)))
+      (ap capped (length-repeat k.times (turned k a.moves)
+      ∙ ap (λ (z : ℕ). k.times * z) (length-turned k.backwards a.moves))
+      ∙ sym (min-mul (2 ^ 128 - 1) k.times (length a.moves)));
   named = λ moves. refl;
 }
 
 pub counts_of_text : (arena : Arena) (generators : List Generator) (k : ℕ) (s : List ℕ)
     → counts_are arena (value_of_text written generators k s) ≡ value_of_text (counted arena) generators k s
-counts_of_text arena generators k s = carried_text written (counted arena) (counts_are arena) (counts_carried arena) generators k s
+counts_of_text arena generators k s = carried_text written (counted arena) (counts_are arena) (counts_carried arena)
+    generators k s

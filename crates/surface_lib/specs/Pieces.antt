@@ -1,5 +1,6 @@
 -- How a text is cut into pieces: at the dots that stand in no bracket.
-use Rattle.std.specs.Prelude.{ℕ, ◌+◌, ◌-◌, Bool, ◌&&◌, ◌||◌, ◌==◌, List, [], ◌∷◌, take, drop, count_by, Option, Some, None, if◌then◌else◌}
+use Rattle.std.specs.Prelude.{ℕ, ◌+◌, ◌-◌, Bool, ◌&&◌, ◌||◌, ◌==◌, List, [], ◌∷◌, take, drop}
+use Rattle.std.specs.Prelude.{count_by, Option, Some, None, if◌then◌else◌}
 
 -- brackets nest at most so deep
 abbrev pub depth_limit : ℕ
@@ -26,8 +27,8 @@ depth_after d c = if c == open_bracket then d + 1 else if c == close_bracket the
 abbrev pub is_bad : ℕ → ℕ → Bool
 is_bad d c = (c == open_bracket && d == depth_limit) || (c == close_bracket && d == 0)
 
--- the place of the first bad bracket; else, where a bracket stays open, the end. The text begins at place p,
--- with d brackets open
+-- the place of the first bad bracket; else, where a bracket stays open, the end. The text begins at
+-- place p, with d brackets open
 abbrev pub bad_bracket : ℕ → ℕ → List ℕ → Option ℕ
 bad_bracket d p [] = if d == 0 then None else Some p
 bad_bracket d p (c ∷ s) = if is_bad d c then Some p else bad_bracket (depth_after d c) (p + 1) s
@@ -45,7 +46,8 @@ in_front c (q ∷ qs) = (c ∷ q) ∷ qs
 abbrev pub parts : ℕ → List ℕ → List (List ℕ)
 parts d [] = [] ∷ []
 parts d (c ∷ s) =
-    let rest : List (List ℕ) = parts (depth_after d c) s in if c == dot && d == 0 then [] ∷ rest else in_front c rest
+    let rest : List (List ℕ) = parts (depth_after d c) s in
+    if c == dot && d == 0 then [] ∷ rest else in_front c rest
 
 -- the pieces of a text; the empty text has none
 abbrev pub pieces : List ℕ → List (List ℕ)
@@ -64,7 +66,8 @@ before_first b (c ∷ s) = if c == b then 0 else before_first b s + 1
 
 -- ---- one piece
 
--- a piece is a group, whose inside is a text again, or a name; behind it may stand the text of a power
+-- a piece is a group, whose inside is a text again, or a name; behind it may stand the text of a
+-- power
 pub data Piece : Type 0 where
   empty : Piece
   group : (inside power : List ℕ) → Piece

@@ -1,5 +1,7 @@
--- Powers behind a name or a group: `^`, then `-` or nothing, then one to four digits of value 1 to 4,096.
-use Rattle.std.specs.Prelude.{ℕ, ◌+◌, ◌-◌, ◌*◌, Bool, true, false, ◌&&◌, ◌==◌, nat_le, List, [], ◌∷◌, Option, Some, None, if◌then◌else◌}
+-- Powers behind a name or a group: `^`, then `-` or nothing, then one to four digits of value 1 to
+-- 4,096.
+use Rattle.std.specs.Prelude.{ℕ, ◌+◌, ◌-◌, ◌*◌, Bool, true, false, ◌&&◌, ◌==◌, nat_le, List, []}
+use Rattle.std.specs.Prelude.{◌∷◌, Option, Some, None, if◌then◌else◌}
 use Rattle.surface_lib.specs.Pieces.{power_sign}
 use Rattle.surface_lib.specs.declared.power.Power.{Power}
 
@@ -14,7 +16,9 @@ is_digit c = nat_le 48 c && nat_le c 57
 abbrev pub number_of : ℕ → ℕ → ℕ → ℕ → Option ℕ
 number_of a b c d =
     let n : ℕ = 1000 * (a - 48) + 100 * (b - 48) + 10 * (c - 48) + (d - 48) in
-    if (is_digit a && is_digit b) && (is_digit c && is_digit d) && (nat_le 1 n && nat_le n power_limit) then Some n else None
+    if (is_digit a && is_digit b) && (is_digit c && is_digit d) && (nat_le 1 n && nat_le n
+    power_limit)
+    then Some n else None
 
 -- one to four digits; fewer than four are as those with zeros (code 48) in front
 abbrev pub exponent : List ℕ → Option ℕ
@@ -31,7 +35,8 @@ with_times backwards (Some k) = Some (record { times = k; backwards = backwards 
 -- what stands behind the `^`; the code of `-` is 45
 abbrev pub signed : List ℕ → Option Power
 signed [] = None
-signed (c ∷ s) = if c == 45 then with_times true (exponent s) else with_times false (exponent (c ∷ s))
+signed (c ∷ s) = if c == 45 then with_times true (exponent s) else with_times false (exponent (c ∷
+    s))
 
 -- where nothing is written the power is 1
 abbrev pub power : List ℕ → Option Power

@@ -1,11 +1,14 @@
 -- The path of a word, or the first refusal of its text.
-use Rattle.std.specs.Prelude.{ℕ, ◌+◌, nat_lt, List, map, length, count_by, Option, Some, None, Result, Ok, Err, if◌then◌else◌}
+use Rattle.std.specs.Prelude.{ℕ, ◌+◌, nat_lt, List, map, length, count_by, Option, Some, None}
+use Rattle.std.specs.Prelude.{Result, Ok, Err, if◌then◌else◌}
 use Rattle.tri_atlas.specs.Arena.{Arena, MoveHandle, step_of}
 use Rattle.tri_atlas.specs.Paths.{is_flip}
 use Rattle.surface_lib.specs.Pieces.{depth_limit, bad_bracket, dots}
-use Rattle.surface_lib.specs.Words.{Generator, test_text, value_of_text, moves_written, names_written}
+use Rattle.surface_lib.specs.Words.{Generator, test_text, value_of_text, moves_written}
+use Rattle.surface_lib.specs.Words.{names_written}
 use Rattle.surface_lib.specs.declared.error.WordError.{WordError}
-use Rattle.surface_lib.specs.declared.error.WordError.TheVariants.{BadGroup, WordTooLong, PartsOver, FlipsOver, MovesOver}
+use Rattle.surface_lib.specs.declared.error.WordError.TheVariants.{BadGroup, WordTooLong, PartsOver}
+use Rattle.surface_lib.specs.declared.error.WordError.TheVariants.{FlipsOver, MovesOver}
 
 -- the most pieces of a text, and names of a word with all powers written out
 abbrev pub part_limit : ℕ
@@ -34,7 +37,8 @@ sized names flips moves =
     else if nat_lt move_limit (length moves) then Err (MovesOver (length moves))
     else Ok moves
 
-abbrev pub sized_if : Arena → List Generator → List ℕ → Result ℕ WordError → Result (List MoveHandle) WordError
+abbrev pub sized_if : Arena → List Generator → List ℕ → Result ℕ WordError
+    → Result (List MoveHandle) WordError
 sized_if arena generators s (Err refusal) = Err refusal
 sized_if arena generators s (Ok parts) =
     let moves : List MoveHandle = value_of_text moves_written generators levels s in
@@ -46,7 +50,7 @@ tested arena generators s None =
     if nat_lt part_limit (dots s + 1) then Err (WordTooLong (dots s + 1))
     else sized_if arena generators s (test_text generators levels 0 s)
 
--- the moves of the word that the text spells, or its first refusal: brackets, dots, the pieces in order of
--- reading, then names, flips and moves
+-- the moves of the word that the text spells, or its first refusal: brackets, dots, the pieces in
+-- order of reading, then names, flips and moves
 abbrev pub reading : Arena → List Generator → List ℕ → Result (List MoveHandle) WordError
 reading arena generators s = tested arena generators s (bad_bracket 0 0 s)

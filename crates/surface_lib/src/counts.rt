@@ -13,8 +13,8 @@ use crate::piece::{Piece, first_piece, pieces, read_piece};
 use crate::power::{Power, read_power};
 use crate::surface::Surface;
 
-/// How many names, flips and moves a word has, with all powers written out. A number from 2^128 - 1 on stands as
-/// 2^128 - 1.
+/// How many names, flips and moves a word has, with all powers written out. A number from 2^128 - 1
+/// on stands as 2^128 - 1.
 #[derive(Clone, Copy, Debug, PartialEq, Eq)]
 pub(crate) struct Counts {
     pub(crate) names: u128,

@@ -2,13 +2,15 @@
 use ideal_tri::Memory;
 use thiserror::Error;
 
-/// Why a text is no word in the generators of a surface: the first test that fails, in the order of the variants.
+/// Why a text is no word in the generators of a surface: the first test that fails, in the order of
+/// the variants.
 ///
-/// Pieces that are no groups are numbered from 0 over the whole text; a group has the number of such pieces that begin
-/// before it.
+/// Pieces that are no groups are numbered from 0 over the whole text; a group has the number of
+/// such pieces that begin before it.
 #[derive(Clone, Copy, Debug, PartialEq, Eq, Error)]
 pub enum WordError {
-    /// The bracket at this byte closes nothing or makes nine open; or one stays open, and this is the text's length.
+    /// The bracket at this byte closes nothing or makes nine open; or one stays open, and this is
+    /// the text's length.
     #[error("BadGroup {0}")]
     BadGroup(u64),
     /// The text has so many dots, and one more: above 4,096.

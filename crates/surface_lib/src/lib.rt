@@ -1,10 +1,12 @@
 //! Surfaces, and the words in their generators.
 //!
-//! A word is a text such as `a.B^3.(a.b)^-2`: the generators' paths joined from left to right, the leftmost applied first,
-//! and backwards for inverse parts. `read_word` gives the path of a word, or the first refusal with its place.
+//! A word is a text such as `a.B^3.(a.b)^-2`: the generators' paths joined from left to right, the
+//! leftmost applied first, and backwards for inverse parts. `read_word` gives the path of a word,
+//! or the first refusal with its place.
 //!
-//! The definition of a word stands in `specs/`: `Pieces` (how a text is cut), `Powers`, `Words` (the tests of the pieces, and
-//! the value of a word), `Refusals` (the path, or the first refusal in its order) and `Surfaces`.
+//! The definition of a word stands in `specs/`: `Pieces` (how a text is cut), `Powers`, `Words`
+//! (the tests of the pieces, and the value of a word), `Refusals` (the path, or the first refusal
+//! in its order) and `Surfaces`.
 #![tactic(auto)]
 
 mod counts;
@@ -16,6 +18,8 @@ mod power;
 mod surface;
 mod tested;
 mod word;
+#[cfg(test)]
+mod word_tests;
 
 pub use error::WordError;
 pub use surface::Surface;

@@ -28,11 +28,7 @@ pub(crate) fn generator_named<'a>(s: &'a Surface, name: &[u8]) -> Option<Named<'
     }
 }
 
-fn with_first<'a>(
-    s: &'a Surface,
-    first: u8,
-    rest: &[u8],
-) -> Option<Named<'a>>
+fn with_first<'a>(s: &'a Surface, first: u8, rest: &[u8]) -> Option<Named<'a>>
     requires { IsSurface s.now }
     ensures closed { IfSome result (λ n. IsLoop s.now.atlas n.path.now) }
     ensures found { moves_found result ≡ moves_named (generators_of s.now) (first ∷ rest.now) }
@@ -53,7 +49,8 @@ fn is_upper(c: u8) -> bool
 fn find<'a>(s: &'a Surface, first: u8, rest: &[u8]) -> Option<&'a Path>
     requires { IsSurface s.now }
     ensures closed { IfSome result (λ p. IsLoop s.now.atlas p.now) }
-    ensures found { option_map (λ p. p.now.moves) result ≡ moves_of (first ∷ rest.now) (generators_of s.now) }
+    ensures found { option_map (λ p. p.now.moves) result
+        ≡ moves_of (first ∷ rest.now) (generators_of s.now) }
 {
     for (name, path) in &s.generators {
         if is_spelt(name.as_bytes(), first, rest) {

@@ -3,7 +3,8 @@ ghost use Rattle.std.specs.Prelude.{◌≡◌, IfOk, IfSome};
 ghost use Rattle.std.specs.List.{repeat};
 ghost use Rattle.surface_lib.specs.Pieces.{piece};
 ghost use Rattle.surface_lib.specs.Powers.{power};
-ghost use Rattle.surface_lib.specs.Words.{moves_written, taken_if, named_if, value_of_piece, value_of_text};
+ghost use Rattle.surface_lib.specs.Words.{moves_written, taken_if, named_if, value_of_piece};
+ghost use Rattle.surface_lib.specs.Words.{value_of_text};
 ghost use Rattle.surface_lib.specs.Surfaces.{generators_of, IsSurface, IsLoop};
 ghost use Rattle.surface_lib.specs.inside.Found.{moves_found};
 
@@ -25,7 +26,8 @@ pub(crate) fn path_of_text(
 ) -> Result<Path, Memory>
     requires { IsSurface s.now }
     ensures closed { IfOk result (IsLoop s.now.atlas) }
-    ensures moves { IfOk result (λ p. p.moves ≡ value_of_text moves_written (generators_of s.now) levels text.now) }
+    ensures moves { IfOk result
+        (λ p. p.moves ≡ value_of_text moves_written (generators_of s.now) levels text.now) }
 {
     let mut path = Path::new(alloc, s.atlas.base());
     if levels == 0 {
@@ -69,10 +71,12 @@ fn path_of_name(alloc: Global, s: &Surface, named: Option<Named<'_>>) -> Result<
     ensures moves { IfOk result (λ p. p.moves ≡ named_if moves_written (moves_found named.entry)) }
 {
     match named {
-        Some(Named {
-            path,
-            backwards: true,
-        }) => path.inverse(alloc, &s.atlas),
+        Some(
+            Named {
+                path,
+                backwards: true,
+            },
+        ) => path.inverse(alloc, &s.atlas),
         Some(Named { path, .. }) => repeated(alloc, s, path, 1),
         None => Ok(Path::new(alloc, s.atlas.base())),
     }
@@ -82,7 +86,8 @@ fn path_of_name(alloc: Global, s: &Surface, named: Option<Named<'_>>) -> Result<
 fn taken(alloc: Global, s: &Surface, path: &Path, text: &[u8]) -> Result<Path, Memory>
     requires { IsLoop s.now.atlas path.now }
     ensures closed { IfOk result (IsLoop s.now.atlas) }
-    ensures moves { IfOk result (λ p. p.moves ≡ taken_if moves_written path.now.moves (power text.now)) }
+    ensures moves { IfOk result (λ p. p.moves ≡ taken_if moves_written path.now.moves (power
+        text.now)) }
 {
     match read_power(text) {
         Some(power) => times(alloc, s, path, power),
@@ -103,8 +108,8 @@ fn times(alloc: Global, s: &Surface, path: &Path, power: Power) -> Result<Path, 
     }
 }
 
-/// The path so many times. A path without moves is passed over, so that nested empty groups with large powers cost
-/// nothing.
+/// The path so many times. A path without moves is passed over, so that nested empty groups with
+/// large powers cost nothing.
 fn repeated(alloc: Global, s: &Surface, path: &Path, times: u32) -> Result<Path, Memory>
     requires { IsLoop s.now.atlas path.now }
     ensures closed { IfOk result (IsLoop s.now.atlas) }

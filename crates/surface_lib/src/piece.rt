@@ -1,7 +1,8 @@
 //! How a text is cut into pieces.
 ghost use Rattle.std.specs.Prelude.{◌≡◌, ◌<◌, ◌≤◌, ◌+◌, ◌^◌, ◌==◌, ◌&&◌, ◌∷◌, length};
 ghost use Rattle.std.specs.Option.{option_map};
-ghost use Rattle.surface_lib.specs.Pieces.{is_bad, depth_after, bad_bracket, dots, parts, pieces, before, before_first, piece, group_behind, name_in};
+ghost use Rattle.surface_lib.specs.Pieces.{is_bad, depth_after, bad_bracket, dots, parts, pieces};
+ghost use Rattle.surface_lib.specs.Pieces.{before, before_first, piece, group_behind, name_in};
 ghost use Rattle.surface_lib.specs.inside.Cut.{seen, inside_length, parts_left, bytes_left};
 
 /// A piece of a text: nothing, a group, or a name; and behind it the text of a power.
@@ -14,7 +15,8 @@ pub(crate) enum Piece<'a> {
 /// How many brackets may be open at once.
 const DEPTH_LIMIT: u64 = 8;
 
-/// The place of the first bracket that closes nothing or opens one too many; or the end, where one stays open.
+/// The place of the first bracket that closes nothing or opens one too many; or the end, where one
+/// stays open.
 pub(crate) fn bad_bracket(text: &[u8]) -> Option<u64>
     ensures { result ≡ bad_bracket 0 0 text.now }
 {
@@ -103,7 +105,8 @@ pub(crate) fn pieces(text: &[u8]) -> Option<&[u8]>
 /// The first piece, and what stands behind the dot that ends it.
 pub(crate) fn first_piece(text: &[u8]) -> (&[u8], Option<&[u8]>)
     ensures cut { parts 0 text.now ≡ result.0.now ∷ parts_left (option_map (λ r. r.now) result.1) }
-    ensures size { length result.0.now + 1 + bytes_left (option_map (λ r. r.now) result.1) ≤ length text.now + 1 }
+    ensures size { length result.0.now + 1 + bytes_left (option_map (λ r. r.now) result.1)
+        ≤ length text.now + 1 }
 {
     let end = before(b'.', text);
     let first = &text[..end];
@@ -145,5 +148,8 @@ fn name(text: &[u8]) -> Piece<'_>
     ensures inside { inside_length result ≤ length text.now }
 {
     let end = before_first(b'^', text);
-    Piece::Name { spelt: &text[..end], power: &text[end..] }
+    Piece::Name {
+        spelt: &text[..end],
+        power: &text[end..],
+    }
 }

@@ -1,6 +1,7 @@
 //! Powers of the parts of a word.
 ghost use Rattle.std.specs.Prelude.{◌≡◌, ◌<◌, ◌-◌, ◌&&◌};
-ghost use Rattle.surface_lib.specs.Powers.{is_digit, number_of, exponent, with_times, signed, power};
+ghost use Rattle.surface_lib.specs.Powers.{is_digit, number_of, exponent, with_times, signed};
+ghost use Rattle.surface_lib.specs.Powers.{power};
 
 /// How often a part of a word is taken, from 1 to 4,096 times, and whether it is taken backwards.
 #[derive(Clone, Copy, Debug, PartialEq, Eq)]
@@ -12,8 +13,8 @@ pub struct Power {
 /// The largest exponent.
 const POWER_LIMIT: u32 = 4_096;
 
-/// The power that the text behind a name or a group is: `^`, then `-` or nothing, then one to four digits of value 1 to
-/// 4,096. Where nothing is written it is 1.
+/// The power that the text behind a name or a group is: `^`, then `-` or nothing, then one to four
+/// digits of value 1 to 4,096. Where nothing is written it is 1.
 pub(crate) fn read_power(text: &[u8]) -> Option<Power>
     ensures { result ≡ power text.now }
 {

@@ -11,8 +11,8 @@ use crate::piece::{Piece, first_piece, pieces, read_piece};
 use crate::power::read_power;
 use crate::surface::Surface;
 
-/// Tests the pieces of a text whose brackets nest less than so many levels deep, the first of them with this number; the
-/// number behind the last.
+/// Tests the pieces of a text whose brackets nest less than so many levels deep, the first of them
+/// with this number; the number behind the last.
 #[cycle(tested)]
 pub(crate) fn test_text(
     s: &Surface,
@@ -43,7 +43,8 @@ pub(crate) fn test_text(
 fn test_piece(s: &Surface, levels: u32, number: u64, text: &[u8]) -> Result<u64, WordError>
     requires surface { IsSurface s.now }
     requires room { number + length text.now + 1 < 2 ^ 64 }
-    ensures tested { result ≡ test_piece (generators_of s.now) (test_text (generators_of s.now) levels) number (piece text.now) }
+    ensures tested { result ≡ test_piece (generators_of s.now)
+        (test_text (generators_of s.now) levels) number (piece text.now) }
     ensures next { IfOk result (λ n. n ≤ number + length text.now + 1) }
 {
     match read_piece(text) {

@@ -26,17 +26,21 @@ const MOVE_LIMIT: u128 = 131_072;
 /// The levels of a text whose brackets nest at most 8 deep.
 const LEVELS: u32 = 9;
 
-/// The path of a word in the generators of a surface (a mapping class in Bell's flipper), from the base to the base.
+/// The path of a word in the generators of a surface (a mapping class in Bell's flipper), from the
+/// base to the base.
 ///
-/// The pieces of a text stand between the dots outside brackets. A piece is a generator's name, or its inverse, spelt with
-/// the first letter in upper case; or a group, a word in brackets. Behind a piece may stand a power, as `^3` or `^-12`. The
-/// word's path is that of its pieces joined from left to right: the leftmost is applied first. The empty text is the empty
-/// word. `WordError` lists the refusals in their order. All sizes are counted before any path is built.
+/// The pieces of a text stand between the dots outside brackets. A piece is a generator's name, or
+/// its inverse, spelt with the first letter in upper case; or a group, a word in brackets. Behind a
+/// piece may stand a power, as `^3` or `^-12`. The word's path is that of its pieces joined from
+/// left to right: the leftmost is applied first. The empty text is the empty word. `WordError`
+/// lists the refusals in their order. All sizes are counted before any path is built.
 pub fn read_word(alloc: Global, s: &Surface, word: &str) -> Result<Path, WordError>
     requires { IsSurface s.now }
     ensures closed { IfOk result (IsLoop s.now.atlas) }
-    ensures accepted { IfOk result (λ p. reading s.now.atlas (generators_of s.now) word.now ≡ Ok p.moves) }
-    ensures refused { IfErr result (λ e. (e ≡ WordError.Memory) ⊎ (reading s.now.atlas (generators_of s.now) word.now ≡ Err e)) }
+    ensures accepted { IfOk result
+        (λ p. reading s.now.atlas (generators_of s.now) word.now ≡ Ok p.moves) }
+    ensures refused { IfErr result (λ e. (e ≡ WordError.Memory)
+        ⊎ (reading s.now.atlas (generators_of s.now) word.now ≡ Err e)) }
 {
     let text = word.as_bytes();
     test_word(s, text)?;

@@ -1,5 +1,5 @@
 -- Counting a word's names, flips and moves in 128 bits.
-use Rattle.std.specs.Prelude.{ℕ, ◌+◌, ◌*◌, ◌-◌, ◌^◌, min, List, length, Option, Some, None}
+use Rattle.std.specs.Prelude.{ℕ, ◌+◌, ◌*◌, ◌-◌, ◌^◌, min, List, length}
 use Rattle.tri_atlas.specs.Arena.{Arena, MoveHandle}
 use Rattle.surface_lib.specs.Words.{Target}
 use Rattle.surface_lib.specs.Refusals.{flips_among}
@@ -14,13 +14,25 @@ abbrev pub no_counts : Counts
 no_counts = record { names = 0; flips = 0; moves = 0 }
 
 abbrev pub both : Counts → Counts → Counts
-both a b = record { names = capped (a.names + b.names); flips = capped (a.flips + b.flips); moves = capped (a.moves + b.moves) }
+both a b = record {
+  names = capped (a.names + b.names);
+  flips = capped (a.flips + b.flips);
+  moves = capped (a.moves + b.moves);
+}
 
 abbrev pub times : Power → Counts → Counts
-times k a = record { names = capped (k.times * a.names); flips = capped (k.times * a.flips); moves = capped (k.times * a.moves) }
+times k a = record {
+  names = capped (k.times * a.names);
+  flips = capped (k.times * a.flips);
+  moves = capped (k.times * a.moves);
+}
 
 abbrev pub of_name : Arena → List MoveHandle → Counts
-of_name arena moves = record { names = 1; flips = capped (flips_among arena moves); moves = capped (length moves) }
+of_name arena moves = record {
+  names = 1;
+  flips = capped (flips_among arena moves);
+  moves = capped (length moves);
+}
 
 abbrev pub counted : Arena → Target Counts
 counted arena = record { none = no_counts; joined = both; taken = times; named = of_name arena }

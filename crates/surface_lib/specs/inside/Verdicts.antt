@@ -6,7 +6,8 @@ use Rattle.surface_lib.specs.declared.error.WordError.{WordError}
 use Rattle.surface_lib.specs.declared.error.WordError.TheVariants.{PartsOver, FlipsOver, MovesOver}
 
 -- the tests pass, and these are the moves of the word; or they give its first refusal
-abbrev pub IsVerdict : Result (Unit {0}) WordError → List MoveHandle → Result (List MoveHandle) WordError → Type 0
+abbrev pub IsVerdict : Result (Unit {0}) WordError → List MoveHandle
+    → Result (List MoveHandle) WordError → Type 0
 IsVerdict (Ok passed) moves told = told ≡ Ok moves
 IsVerdict (Err refusal) moves told = told ≡ Err refusal
 

@@ -14,7 +14,8 @@ decreases-count_text l = 2 * l.levels
 
 abbrev pub invariant-count_text-loop-rest : goal.invariant-count_text-loop-rest
 invariant-count_text-loop-rest l =
-    value_of_pieces (counted l.s.atlas) (generators_of l.s) (value_of_text (counted l.s.atlas) (generators_of l.s) l.inner)
+    value_of_pieces (counted l.s.atlas) (generators_of l.s) (value_of_text (counted l.s.atlas) (generators_of l.s)
+    l.inner)
     l.counts (parts_left (option_map (λ r. r.now) l.rest))
     ≡ value_of_text (counted l.s.atlas) (generators_of l.s) l.levels l.text
 

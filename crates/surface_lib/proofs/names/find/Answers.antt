@@ -1,4 +1,4 @@
-use Rattle.std.proofs.Common.{◌≡◌, ◌∷◌, ◌∙◌, List, ℕ, sym, ap}
+use Rattle.std.proofs.Common.{◌∷◌, ◌∙◌, List, ℕ, sym, ap}
 use Rattle.std.specs.Str.{bytes_eq}
 use Rattle.surface_lib.proofs.Lookups.{passed_over, generators_behind}
 use Rattle.surface_lib.proofs.names.find.Goals as goal
@@ -6,7 +6,8 @@ use Rattle.surface_lib.proofs.names.find.Goals as goal
 pub loop-name-preserved : goal.loop-name-preserved
 loop-name-preserved c =
     let steps = c.in-Some.ensures.steps in
-    let other = ap (λ (z : List ℕ). bytes_eq z (c.args.first ∷ c.args.rest.now)) (sym c.as_bytes.ensures.value) ∙ sym c.if-is_spelt.ensures in
+    let other = ap (λ (z : List ℕ). bytes_eq z (c.args.first ∷ c.args.rest.now)) (sym c.as_bytes.ensures.value)
+    ∙ sym c.if-is_spelt.ensures in
     record {
       next = tt;
       finite = tt;

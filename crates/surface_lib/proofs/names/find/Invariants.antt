@@ -8,5 +8,5 @@ invariant-loop-name l = record {
   next : (goal.iterator-loop-name).can_next l.name-iterator;
   finite : (goal.iterator-loop-name).is_finite l.name-iterator;
   loops : All (IsGenerator l.s.atlas) l.name-iterator;
-  left : moves_of (l.first ∷ l.rest) (generators_in l.name-iterator) ≡ moves_of (l.first ∷ l.rest) (generators_of l.s)
+  left : moves_of (l.first ∷ l.rest) (generators_in l.name-iterator) ≡ moves_of (l.first ∷ l.rest) (generators_of l.s);
 }

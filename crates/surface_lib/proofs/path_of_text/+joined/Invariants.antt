@@ -16,7 +16,7 @@ invariant-path_of_text-loop-rest l = record {
   closed : IsLoop l.s.atlas l.path;
   left : value_of_pieces moves_written (generators_of l.s) (value_of_text moves_written (generators_of l.s) l.inner)
       l.path.moves (parts_left (option_map (λ r. r.now) l.rest))
-    ≡ value_of_text moves_written (generators_of l.s) l.levels l.text
+      ≡ value_of_text moves_written (generators_of l.s) l.levels l.text;
 }
 
 abbrev pub decreases-path_of_text-loop-rest : goal.decreases-path_of_text-loop-rest

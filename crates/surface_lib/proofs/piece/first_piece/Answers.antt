@@ -1,6 +1,5 @@
-use Rattle.std.proofs.Common.{◌≡◌, ◌<◌, ◌≤◌, arith, subst, sym, ℕ, length}
+use Rattle.std.proofs.Common.{arith}
 use Rattle.std.proofs.lemmas.Grind.{common_steps}
-use Rattle.surface_lib.specs.Pieces.{before, dot}
 use Rattle.surface_lib.proofs.Cuts.{one_piece, first_of_pieces}
 use Rattle.surface_lib.proofs.piece.first_piece.Goals as goal
 

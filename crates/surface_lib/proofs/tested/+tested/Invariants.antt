@@ -13,9 +13,10 @@ decreases-test_text l = 2 * l.levels
 
 abbrev pub invariant-test_text-loop-rest : goal.invariant-test_text-loop-rest
 invariant-test_text-loop-rest l = record {
-  left : test_pieces (generators_of l.s) (test_text (generators_of l.s) l.inner) l.next (parts_left (option_map (λ r. r.now) l.rest))
+  left : test_pieces (generators_of l.s) (test_text (generators_of l.s) l.inner) l.next (parts_left (option_map (λ r.
+      r.now) l.rest))
       ≡ test_text (generators_of l.s) l.levels l.number l.text;
-  room : l.next + bytes_left (option_map (λ r. r.now) l.rest) ≤ l.number + length l.text + 1
+  room : l.next + bytes_left (option_map (λ r. r.now) l.rest) ≤ l.number + length l.text + 1;
 }
 
 abbrev pub decreases-test_text-loop-rest : goal.decreases-test_text-loop-rest
