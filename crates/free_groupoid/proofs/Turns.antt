@@ -6,7 +6,7 @@ use Rattle.std.proofs.lemmas.List.{take_more, take_all}
 use Rattle.ideal_tri.specs.Words.{last_of, closed_up}
 use Rattle.ideal_tri.specs.Peripheral.{AllNeighbours}
 use Rattle.ideal_tri.specs.Triangulations.{IsLabel}
-use Rattle.free_groupoid.specs.Turns.{turn_of, TurnsEach}
+use Rattle.free_groupoid.specs.inside.Turns.{turn_of, TurnsEach}
 
 -- ---- the last letter
 

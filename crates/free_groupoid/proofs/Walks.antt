@@ -1,5 +1,5 @@
 -- Walks on the triangles: their letters and ends, and their cyclic reduction, which is closed where they are.
-use Rattle.std.proofs.Common.{ℕ, ℤ, List, [], ◌∷◌, ◌++◌, ◌≡◌, ◌+◌, ◌<◌, refl, sym, ◌∙◌, ap, subst, arith, length, take, get_or}
+use Rattle.std.proofs.Common.{ℕ, suc, ℤ, pos, negsuc, List, [], ◌∷◌, ◌++◌, ◌≡◌, ◌+◌, ◌-◌, ◌<◌, refl, sym, ◌∙◌, ap, subst, arith, length, take, get_or}
 use Rattle.std.specs.List.{All}
 use Rattle.std.proofs.lemmas.List.{take_more}
 use Rattle.std.proofs.lemmas.List.Elements.{All-nil, All-cons}
@@ -13,6 +13,10 @@ use Rattle.free_groupoid.proofs.Words.{inverse_word-inverse_word}
 pub walk_labels : (triples : List (List ℤ)) (s t : ℕ) (w : List ℤ) → IsWalk triples s w t → All (IsLabel triples) w
 walk_labels triples s t [] h = All-nil (IsLabel triples)
 walk_labels triples s t (x ∷ w) h = All-cons (IsLabel triples) x w h.0 (walk_labels triples (triangle_of triples (inverse x)) t w h.2)
+
+pub inverse_label : (triples : List (List ℤ)) (x : ℤ) → IsLabel triples x → IsLabel triples (inverse x)
+inverse_label triples (pos n) h = h
+inverse_label triples (negsuc n) h = h
 
 -- ---- one more letter, and parts of walks
 
@@ -73,3 +77,14 @@ module _ (triples : List (List ℤ)) (laws : WalkLaws triples) (cyclic : CyclicL
       let (r, core) = closed_core triples laws cyclic s old closed in
       starts_with_first r new (subst (λ (w : List ℤ). IsWalk triples r w r) (sym is_new) core)
       (subst (λ (w : List ℤ). 0 < length w) is_seen some) (subst (λ (w : List ℤ). x ≡ get_or w 0 x) is_seen is_x)
+
+-- ---- the last letter of a walk
+
+pub walk_to_end : (triples : List (List ℤ)) (s t : ℕ) (w : List ℤ) (x : ℤ) → IsWalk triples s w t → 0 < length w → x ≡ get_or w (length w - 1) x
+    → IsLabel triples (inverse x) × (triangle_of triples (inverse x) ≡ t)
+walk_to_end triples s t [] x h some is_x = absurd (omega arith)
+walk_to_end triples s t (y ∷ []) x h some is_x =
+    (subst (λ (z : ℤ). IsLabel triples (inverse z)) (sym is_x) (inverse_label triples y h.0), ap (λ (z : ℤ). triangle_of triples (inverse z)) is_x ∙ h.2)
+walk_to_end triples s t (y ∷ (z ∷ w)) x h some is_x =
+    walk_to_end triples (triangle_of triples (inverse y)) t (z ∷ w) x h.2 (omega arith)
+    (is_x ∙ ap (λ (n : ℕ). get_or (y ∷ (z ∷ w)) n x) (let place : length (y ∷ (z ∷ w)) - 1 ≡ suc (length (z ∷ w) - 1) = omega arith in place))

@@ -1,3 +1,6 @@
 pub mod Walks
 pub mod WalkRefusals
-pub mod Turns
+pub mod GroupoidMaps
+pub mod MapRefusals
+pub mod GroupoidLaws
+pub mod inside

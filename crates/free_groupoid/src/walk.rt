@@ -5,7 +5,7 @@ ghost use Rattle.ideal_tri.specs.Triangulations.{IsLabel};
 ghost use Rattle.ideal_tri.specs.Peripheral.{IsPeripheral};
 ghost use Rattle.free_groupoid.specs.Walks.{DualWalk, IsWalkOn, IsClosedOn, reduced_walk, cyclically_reduced_walk};
 ghost use Rattle.free_groupoid.specs.WalkRefusals.{IsRefusedFor};
-ghost use Rattle.free_groupoid.specs.Turns.{turn_of, TurnsEach};
+ghost use Rattle.free_groupoid.specs.inside.Turns.{turn_of, TurnsEach};
 
 use crate::word;
 use ideal_tri::{Label, Tri, surface_laws, word_laws};

@@ -71,7 +71,8 @@ pub(crate) fn is_rotation(v: &[Label], w: &[Label]) -> bool
 /// Puts a letter behind a reduced word, and reduces it again.
 pub(crate) fn push_reduced(word: &mut Vec<Label>, x: Label) -> Result<(), Memory>
     requires { IsReduced word.old.items }
-    ensures { OnOk result (word.new.items ≡ reduce (word.old.items ++ x ∷ [])) }
+    ensures value { OnOk result (word.new.items ≡ reduce (word.old.items ++ x ∷ [])) }
+    ensures reduced { OnOk result (IsReduced word.new.items) }
 {
     word_laws();
     let count = word.len();

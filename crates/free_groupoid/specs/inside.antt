@@ -1,0 +1,4 @@
+-- What serves private parts alone.
+pub mod Turns
+pub mod Images
+pub mod Fields
