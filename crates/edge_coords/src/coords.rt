@@ -151,7 +151,7 @@ fn first_too_large(values: &[u128]) -> Option<usize>
 }
 
 /// The first triangle with an odd sum.
-fn first_odd(tri: &Tri, w: &[u128]) -> Option<u32>
+pub(crate) fn first_odd(tri: &Tri, w: &[u128]) -> Option<u32>
     requires small { AreSmall w.now }
     requires one_per_edge { length w.now ≡ edge_count tri.now }
     ensures some { IfSome result (IsLeastFailing tri.now (IsEven w.now)) }
@@ -166,7 +166,7 @@ fn first_odd(tri: &Tri, w: &[u128]) -> Option<u32>
 }
 
 /// The first triangle with a long side.
-fn first_long(tri: &Tri, w: &[u128]) -> Option<u32>
+pub(crate) fn first_long(tri: &Tri, w: &[u128]) -> Option<u32>
     requires small { AreSmall w.now }
     requires one_per_edge { length w.now ≡ edge_count tri.now }
     ensures some { IfSome result (IsLeastFailing tri.now (HasNoLongSide w.now)) }

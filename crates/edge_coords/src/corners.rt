@@ -2,7 +2,7 @@
 //!
 //! The corner named `x` lies at the head of the side `x`, between `x` and the side after it. A curve
 //! of the multicurve runs round a vertex exactly where all corners there have strands.
-ghost use Rattle.std.specs.Prelude.{◌≡◌, ◌<◌, ◌≤◌, ◌+◌, ℤ, length, take, IfSome, IfNone};
+ghost use Rattle.std.specs.Prelude.{◌≡◌, ◌<◌, ◌≤◌, ◌+◌, ℤ, pos, length, take, IfSome, IfNone};
 ghost use Rattle.ideal_tri.specs.Labels.{inverse, edge_of};
 ghost use Rattle.ideal_tri.specs.Triangulations.{IsLabel, IsTriangulation, next, previous};
 ghost use Rattle.ideal_tri.specs.Vectors.{IsMulticurve, weight, corner_count};
@@ -12,7 +12,7 @@ ghost use Rattle.tri_atlas.specs.Arena.{triangulation};
 ghost use Rattle.edge_coords.specs.Coordinates.{AreCoordinatesIn, AreSmall};
 ghost use Rattle.edge_coords.specs.PeripheralVertices.{IsLeastPeripheral};
 
-use crate::coords::{Coords, weight};
+use crate::coords::{COORDINATE_LIMIT, Coords, EDGES, weight};
 use ideal_tri::{Label, Tri, VertexId, corner_laws, drawing_laws, surface_laws, vertex_laws};
 use tri_atlas::Atlas;
 
@@ -36,6 +36,26 @@ impl Coords {
             (HasFreeCorners (triangulation atlas.now self.now.tri) self.now.numbers) }
     {
         peripheral_at(atlas.tri(self.tri()), self.values())
+    }
+
+    /// Takes the curves off that run round vertices: each corner loses the least count of its
+    /// vertex. They cross an edge near each of its ends, so near both where both are at one vertex.
+    pub fn strip_peripheral(&mut self, atlas: &Atlas)
+        requires { AreCoordinatesIn atlas.now self.old }
+        ensures stripped { self.new ≡ record {
+            tri = self.old.tri;
+            numbers = stripped (triangulation atlas.now self.old.tri) self.old.numbers;
+        } }
+        ensures here { AreCoordinatesIn atlas.now self.new }
+        ensures corners { (x : ℤ) → IsLabel (triangulation atlas.now self.old.tri) x
+            → corner_count (triangulation atlas.now self.old.tri) self.new.numbers x
+                + least_count (triangulation atlas.now self.old.tri) self.old.numbers x
+            ≡ corner_count (triangulation atlas.now self.old.tri) self.old.numbers x }
+        ensures free { HasFreeCorners (triangulation atlas.now self.old.tri) self.new.numbers }
+    {
+        let tri = atlas.tri(self.tri());
+        let numbers = stripped(tri, self.values());
+        *self = Coords::keep(self.tri(), &numbers[..tri.edges() as usize]);
     }
 }
 
@@ -112,7 +132,7 @@ fn first_peripheral(tri: &Tri, w: &[u128]) -> Option<Label>
         → least_count tri.now w.now y ≡ 0) }
 {
     for e in 0..tri.edges() {
-        let x = Label::new(e as i32);
+        let x = label_of(e as usize);
         if least_count(tri, w, x) > 0 {
             return Some(x);
         }
@@ -121,4 +141,63 @@ fn first_peripheral(tri: &Tri, w: &[u128]) -> Option<Label>
         }
     }
     None
+}
+
+/// The numbers without the curves that run round vertices, and zeros after them.
+fn stripped(tri: &Tri, w: &[u128]) -> [u128; EDGES]
+    requires sound { IsTriangulation tri.now }
+    requires multicurve { IsMulticurve tri.now w.now }
+    requires small { AreSmall w.now }
+    requires few { length w.now ≤ EDGES }
+    ensures value { take (length w.now) result ≡ stripped tri.now w.now }
+    ensures small { AreSmall (stripped tri.now w.now) }
+    ensures multicurve { IsMulticurve tri.now (stripped tri.now w.now) }
+    ensures corners { (x : ℤ) → IsLabel tri.now x
+        → corner_count tri.now (stripped tri.now w.now) x + least_count tri.now w.now x
+        ≡ corner_count tri.now w.now x }
+    ensures free { HasFreeCorners tri.now (stripped tri.now w.now) }
+{
+    corner_laws();
+    let mut numbers = [0; EDGES];
+    for e in 0..w.len() {
+        numbers[e] = w[e] - rounded(tri, w, label_of(e));
+    }
+    numbers
+}
+
+/// How often the curves that run round vertices cross the edge of `x`: near its head and its tail.
+fn rounded(tri: &Tri, w: &[u128], x: Label) -> u128
+    requires sound { IsTriangulation tri.now }
+    requires multicurve { IsMulticurve tri.now w.now }
+    requires small { AreSmall w.now }
+    requires label { IsLabel tri.now x }
+    ensures value { result ≡ least_count tri.now w.now x + least_count tri.now w.now (inverse x) }
+    ensures most { result ≤ weight w.now x }
+{
+    ends_law(tri, w, x);
+    least_count(tri, w, x) + least_count(tri, w, x.inverse())
+}
+
+/// The curves that run round vertices cross an edge no more often than all curves do.
+fn ends_law(tri: &Tri, w: &[u128], x: Label)
+    requires sound { IsTriangulation tri.now }
+    requires multicurve { IsMulticurve tri.now w.now }
+    requires small { AreSmall w.now }
+    requires label { IsLabel tri.now x }
+    ensures most { least_count tri.now w.now x + least_count tri.now w.now (inverse x)
+        ≤ weight w.now x }
+    ensures small { weight w.now x < COORDINATE_LIMIT }
+    ensures other { IsLabel tri.now (inverse x) }
+{
+    surface_laws();
+    drawing_laws();
+    corner_laws();
+}
+
+/// The label of an edge that isn't negative.
+fn label_of(e: usize) -> Label
+    requires { e < EDGES }
+    ensures { result ≡ pos e }
+{
+    Label::new(e as i32)
 }

@@ -1,0 +1,9 @@
+use Rattle.std.proofs.Common.{◌-◌, ◌<◌, ◌≤◌, ℕ, slice_index}
+use Rattle.edge_coords.proofs.Filled.{IsFilled}
+use Rattle.edge_coords.proofs.sums.differences.Given as goal
+
+abbrev pub invariant-loop-e : goal.invariant-loop-e
+invariant-loop-e l = record {
+  filled : IsFilled (λ e. slice_index l.u e - slice_index l.v e) l.rest l.e;
+  no_more : (k : ℕ) → k < l.e → slice_index l.v k ≤ slice_index l.u k;
+}

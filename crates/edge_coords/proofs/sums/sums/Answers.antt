@@ -1,0 +1,13 @@
+use Rattle.std.proofs.Common.{◌+◌, slice_index, length, arith}
+use Rattle.edge_coords.proofs.Filled.{filled, small_values}
+use Rattle.edge_coords.proofs.sums.sums.Goals as goal
+
+pub returns-clause-value : goal.returns-clause-value
+returns-clause-value c =
+    filled (λ e. slice_index c.args.u.now e + slice_index c.args.v.now e) c.loop-e.sums (length c.args.u.now) c.loop-e.e
+    c.requires.few c.loop-e-test.false c.loop-e.invariant.filled
+
+pub returns-clause-fits : goal.returns-clause-fits
+returns-clause-fits c =
+    small_values (λ e. slice_index c.args.u.now e + slice_index c.args.v.now e) (length c.args.u.now)
+    (λ k h. c.loop-e.invariant.small k (omega arith))
