@@ -10,7 +10,7 @@ use Rattle.ideal_tri.specs.SurfaceLaws.{SurfaceLaws}
 use Rattle.tri_atlas.specs.Moves.{Move, triangle_image}
 use Rattle.tri_atlas.specs.Maps.{after, image_of_letter, map_behind, path_map}
 use Rattle.tri_atlas.specs.MapLaws.{MapLaws}
-use Rattle.tri_atlas.specs.ArenaLaws.{AtlasLaws}
+use Rattle.tri_atlas.specs.AtlasLaws.{AtlasLaws}
 use Rattle.tri_atlas.specs.Arena.{Arena, MoveHandle, IsArena, triangulation, source_of, target_of, step_of}
 use Rattle.tri_atlas.specs.Paths.{Lead, triangle_along}
 use Rattle.free_groupoid.specs.GroupoidMaps.{GroupoidMap, IsMapIn, substitution, vertex_image, reduced_image, followed, followed_along}

@@ -11,7 +11,7 @@ use Rattle.ideal_tri.specs.SurfaceLaws.{SurfaceLaws}
 use Rattle.ideal_tri.specs.Triangulations.{IsLabel}
 use Rattle.tri_atlas.specs.Maps.{after, path_map}
 use Rattle.tri_atlas.specs.MapLaws.{MapLaws}
-use Rattle.tri_atlas.specs.ArenaLaws.{AtlasLaws}
+use Rattle.tri_atlas.specs.AtlasLaws.{AtlasLaws}
 use Rattle.tri_atlas.specs.Arena.{Arena, IsArena, triangulation}
 use Rattle.tri_atlas.specs.Paths.{MovePath, IsPathIn, moves_of, triangle_along}
 use Rattle.free_groupoid.specs.Walks.{DualWalk, IsWalkOn}

@@ -17,7 +17,7 @@ use Rattle.free_groupoid.proofs.Entries.{image_labels}
 pub few_edges : (arena : Arena) (t : ℕ) → IsArena arena → IsTriIn arena t → edge_count (triangulation arena t) ≤ EDGES
 few_edges arena t sound here =
     let same : edge_count (triangulation arena t) ≡ edge_count (triangulation arena 0) = sound.edges t here in
-    let few : edge_count (triangulation arena 0) < 49 = sound.few in
+    let few : edge_count (triangulation arena 0) ≤ EDGES = sound.few in
     omega arith
 
 pub images_few : (arena : Arena) (f : GroupoidMap) → IsArena arena → IsMapIn arena f → All (IsBelow EDGES) f.images

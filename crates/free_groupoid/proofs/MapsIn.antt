@@ -13,7 +13,7 @@ use Rattle.ideal_tri.specs.Triangulations.{IsLabel, IsWalk, edge_count, triangle
 use Rattle.tri_atlas.specs.Moves.{triangle_image}
 use Rattle.tri_atlas.specs.Maps.{IsOdd, IsMap, identity, image_of_letter}
 use Rattle.tri_atlas.specs.MapLaws.{MapLaws}
-use Rattle.tri_atlas.specs.ArenaLaws.{AtlasLaws}
+use Rattle.tri_atlas.specs.AtlasLaws.{AtlasLaws}
 use Rattle.tri_atlas.specs.Arena.{Arena, MoveHandle, IsArena, IsTriIn, IsMoveIn, triangulation, source_of, target_of, step_of}
 use Rattle.free_groupoid.specs.Walks.{DualWalk, IsWalkOn}
 use Rattle.free_groupoid.specs.GroupoidMaps.{GroupoidMap, IsMapIn, substitution, vertex_image, reduced_image, identity_map, followed, composed, image_walk}

@@ -12,7 +12,7 @@ use Rattle.ideal_tri.specs.Triangulations.{IsTriangulation, IsLabel}
 use Rattle.tri_atlas.specs.Moves.{Move, IsMove, back_of, triangle_image}
 use Rattle.tri_atlas.specs.Maps.{identity, after, image_of_letter}
 use Rattle.tri_atlas.specs.MapLaws.{MapLaws}
-use Rattle.tri_atlas.specs.ArenaLaws.{AtlasLaws}
+use Rattle.tri_atlas.specs.AtlasLaws.{AtlasLaws}
 use Rattle.tri_atlas.specs.Arena.{Arena, MoveHandle, IsArena, IsMoveIn, IsTriIn, triangulation, source_of, target_of, step_of, back}
 use Rattle.tri_atlas.specs.Paths.{Lead}
 use Rattle.free_groupoid.specs.GroupoidMaps.{GroupoidMap, IsMapIn, reduced_image, followed, followed_along}

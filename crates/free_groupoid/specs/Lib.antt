@@ -3,4 +3,10 @@ pub mod WalkRefusals
 pub mod GroupoidMaps
 pub mod MapRefusals
 pub mod GroupoidLaws
+pub mod TestWalks
+pub mod Inner
+pub mod Related
+pub mod ForestLaws
+pub mod InnerLaws
+pub mod RelatedLaws
 pub mod inside

@@ -2,3 +2,4 @@
 pub mod Turns
 pub mod Images
 pub mod Fields
+pub mod InnerPaths

@@ -2,6 +2,7 @@
 #![tactic(auto)]
 
 mod images;
+mod inner_maps;
 mod laws;
 mod letter;
 mod map;
@@ -9,6 +10,7 @@ mod triangles;
 mod walk;
 mod word;
 
+pub use inner_maps::{forest_laws, inner_laws, related_laws};
 pub use laws::groupoid_laws;
 pub use letter::{LetterImage, move_image};
 pub use map::{Map, MapError};
