@@ -6,7 +6,7 @@ use Rattle.ideal_tri.specs.Labels.{edge_of}
 use Rattle.ideal_tri.specs.Triangulations.{IsLabel, edge_count}
 use Rattle.ideal_tri.specs.Vectors.{corner_count}
 use Rattle.ideal_tri.specs.Vertices.{rank, IsSameVertex, least_corner, vertex_of}
-use Rattle.ideal_tri.specs.VertexLaws.{VertexLaws}
+use Rattle.ideal_tri.specs.VertexLaws.{PunctureLaws}
 use Rattle.ideal_tri.specs.CornerLaws.{CornerLaws}
 use Rattle.ideal_tri.specs.PeripheralParts.{HasFreeCorners, least_count}
 use Rattle.edge_coords.specs.PeripheralVertices.{IsPeripheralAt, IsLeastPeripheral}
@@ -34,7 +34,7 @@ edge_within (negsuc a) (negsuc b) n h l = omega arith
 
 -- ---- the least vertex
 
-module _ (triples : List (List ℤ)) (w : List ℕ) (corners : CornerLaws triples) (vertices : VertexLaws triples) where
+module _ (triples : List (List ℤ)) (w : List ℕ) (corners : CornerLaws triples) (vertices : PunctureLaws triples) where
   least_label : (x : ℤ) → IsLabel triples x → IsLabel triples (least_corner triples x)
   least_label x l =
       edge_within x (least_corner triples x) (edge_count triples)
