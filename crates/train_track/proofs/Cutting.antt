@@ -1,8 +1,10 @@
 -- Cutting a word into branches, one after another.
 --
--- Some cut is there. Each branch that is read off has the first two letters of the next pass of that cut, so it has all its
--- letters, and may take its place.
-use Rattle.std.proofs.Common.{ℕ, zero, suc, ℤ, pos, Bool, true, false, List, [], ◌∷◌, ◌++◌, ◌≡◌, ◌<◌, ◌≤◌, ◌+◌, ◌-◌, ◌⊎◌, inl, inr, refl, sym, ◌∙◌, ap, subst, arith, length, map, drop, get_or, append_assoc, length-append, length-drop, drop-cons, if◌then◌else◌}
+-- Some cut is there. Each branch that is read off has the first two letters of the next pass of that cut, so it has all
+-- its letters, and may take its place.
+use Rattle.std.proofs.Common.{ℕ, zero, suc, ℤ, pos, Bool, true, false, List, [], ◌∷◌, ◌++◌, ◌≡◌, ◌<◌, ◌≤◌, ◌+◌, ◌-◌}
+use Rattle.std.proofs.Common.{◌⊎◌, inl, inr, refl, sym, ◌∙◌, ap, subst, arith, length, map, drop, get_or, append_assoc}
+use Rattle.std.proofs.Common.{length-append, length-drop, drop-cons, if◌then◌else◌}
 use Rattle.std.proofs.Math.Seq.{drop-append_seam}
 use Rattle.std.proofs.Math.ListN.{drop_of_length-le}
 use Rattle.std.proofs.lemmas.List.{get_or-map, get_or-drop, get_or_append_left, map_push, append-nil, drop-drop}
@@ -42,12 +44,14 @@ last_of-read x [] d = refl
 last_of-read x (y ∷ w) d = last_of-read y w d
 
 -- where the letters u after x end, in a word that goes on with them
-end_letter : (w u v : List ℤ) (i : ℕ) → i < length w → drop (i + 1) w ≡ u ++ v → letter_at w (i + length u) ≡ last_of (letter_at w i) u
+end_letter : (w u v : List ℤ) (i : ℕ) → i < length w → drop (i + 1) w ≡ u ++ v
+    → letter_at w (i + length u) ≡ last_of (letter_at w i) u
 end_letter w u v i within split =
     let x : ℤ = letter_at w i in
     sym (get_or-drop i w (length u) (pos 0))
     ∙ ap (λ (z : List ℤ). get_or z (length u) (pos 0))
-    (drop-cons w i (pos 0) within ∙ ap (λ (n : ℕ). x ∷ drop n w) (let e : suc i ≡ i + 1 = omega arith in e) ∙ ap (λ (z : List ℤ). x ∷ z) split)
+    (drop-cons w i (pos 0) within ∙ ap (λ (n : ℕ). x ∷ drop n w) (let e : suc i ≡ i + 1 = omega arith in e) ∙ ap
+    (λ (z : List ℤ). x ∷ z) split)
     ∙ get_or_append_left (x ∷ u) v (pos 0) (length u) (omega arith)
     ∙ sym (last_of-read x u (pos 0))
 
@@ -68,17 +72,21 @@ length-inverse_word (x ∷ w) = omega (arith, length-append (inverse_word w) (in
 length-letters_of : (bs : List (List ℤ)) (p : Pass) → length (letters_of bs p) ≡ length (get_or bs p.branch [])
 length-letters_of bs p = go p.forwards
   where
-    go : (b : Bool) → length (if b then get_or bs p.branch [] else inverse_word (get_or bs p.branch [])) ≡ length (get_or bs p.branch [])
+    go : (b : Bool)
+        → length (if b then get_or bs p.branch [] else inverse_word (get_or bs p.branch []))
+        ≡ length (get_or bs p.branch [])
     go true = refl
     go false = length-inverse_word (get_or bs p.branch [])
 
-long_letters : (bs : List (List ℤ)) (p : Pass) → All (λ b. 2 ≤ length b) bs → p.branch < length bs → 2 ≤ length (letters_of bs p)
+long_letters : (bs : List (List ℤ)) (p : Pass) → All (λ b. 2 ≤ length b) bs → p.branch < length bs
+    → 2 ≤ length (letters_of bs p)
 long_letters bs p long within =
     let here : 2 ≤ length (get_or bs p.branch []) = long p.branch [] within in
     omega (arith, length-letters_of bs p)
 
 -- the pass begins with the next two letters
-begins_next : (bs : List (List ℤ)) (w : List ℤ) (i : ℕ) (p : Pass) (u v : List ℤ) → All (λ b. 2 ≤ length b) bs → p.branch < length bs
+begins_next : (bs : List (List ℤ)) (w : List ℤ) (i : ℕ) (p : Pass) (u v : List ℤ) → All (λ b. 2 ≤ length b) bs
+    → p.branch < length bs
     → letters_of bs p ≡ letter_at w i ∷ u → drop (i + 1) w ≡ u ++ v
     → BeginsWith (letter_at w i) (letter_at w (i + 1)) (letters_of bs p)
 begins_next bs w i p [] v long within is split =
@@ -105,16 +113,19 @@ module _ (bs : List (List ℤ)) (w : List ℤ) (can : CanBeCutInto bs w) where
       go (q ∷ left) (u, v, within, is, split, rest) =
           (q.branch, (within, (q.forwards, begins_next bs w i q u v can.long within is split)))
 
-  cut_pass : (numbers : List ℕ) (i n : ℕ) (p : Pass) → IsCutUpTo bs w numbers i → i + 1 < length w → p.branch < length bs
+  cut_pass : (numbers : List ℕ) (i n : ℕ) (p : Pass) → IsCutUpTo bs w numbers i → i + 1 < length w
+      → p.branch < length bs
       → BeginsWith (letter_at w i) (letter_at w (i + 1)) (letters_of bs p) → length (get_or bs p.branch []) ≡ n
       → IsCutUpTo bs w (numbers ++ (p.branch ∷ [])) (i + (n - 1))
   cut_pass numbers i n p h more within begins is_n = go h.left h.left_glued
     where
-      go : (left : List Pass) → AreGlued bs (letter_at w i) left (drop (i + 1) w) → IsCutUpTo bs w (numbers ++ (p.branch ∷ [])) (i + (n - 1))
+      go : (left : List Pass) → AreGlued bs (letter_at w i) left (drop (i + 1) w)
+          → IsCutUpTo bs w (numbers ++ (p.branch ∷ [])) (i + (n - 1))
       go [] none = absurd (omega (arith, ap length none, length-drop (i + 1) w))
       go (q ∷ left) (u, v, inside, is, split, rest) =
           let same : letters_of bs p ≡ letter_at w i ∷ u =
-          can.settled p q (letter_at w i) (letter_at w (i + 1)) within inside begins (begins_next bs w i q u v can.long inside is split) ∙ is in
+          can.settled p q (letter_at w i) (letter_at w (i + 1)) within inside begins
+          (begins_next bs w i q u v can.long inside is split) ∙ is in
           let step : i + (n - 1) ≡ i + length u =
           omega (arith, length-letters_of bs p, ap length same, is_n) in
           let here = h.within in
@@ -122,9 +133,12 @@ module _ (bs : List (List ℤ)) (w : List ℤ) (can : CanBeCutInto bs w) where
             within = omega (arith, ap length split, length-drop (i + 1) w, length-append u v);
             made = h.made ++ (p ∷ []);
             left = left;
-            numbers_are = ap (λ (ms : List ℕ). ms ++ (p.branch ∷ [])) h.numbers_are ∙ sym (map_push (λ (r : Pass). r.branch) h.made p);
+            numbers_are =
+                ap (λ (ms : List ℕ). ms ++ (p.branch ∷ [])) h.numbers_are
+                ∙ sym (map_push (λ (r : Pass). r.branch) h.made p);
             left_glued =
-                subst (λ (x : ℤ). AreGlued bs x left (drop (i + length u + 1) w)) (sym (end_letter w u v i h.within split))
+                subst (λ (x : ℤ). AreGlued bs x left (drop (i + length u + 1) w))
+                (sym (end_letter w u v i h.within split))
                 (subst (AreGlued bs (last_of (letter_at w i) u) left) (sym (end_rest w u v i split)) rest);
             joined = λ more_passes glued.
                 subst (λ (ps : List Pass). ArePassesOf bs ps w) (sym (append_assoc h.made (p ∷ []) more_passes))
@@ -168,9 +182,11 @@ inverse_begins (x ∷ (y ∷ (z ∷ w))) h =
     let (a, b) = inverse_begins (y ∷ (z ∷ w)) long in
     let room : 2 ≤ length (inverse_word v) = omega (arith, length-inverse_word v) in (
       get_or_append_left (inverse_word v) (inverse x ∷ []) (pos 0) 0 (omega arith) ∙ a
-          ∙ ap (λ (k : ℕ). inverse (letter_at (x ∷ v) k)) (let e : suc (length v - 1) ≡ length (x ∷ v) - 1 = omega arith in e),
+          ∙ ap (λ (k : ℕ). inverse (letter_at (x ∷ v) k))
+          (let e : suc (length v - 1) ≡ length (x ∷ v) - 1 = omega arith in e),
       get_or_append_left (inverse_word v) (inverse x ∷ []) (pos 0) 1 (omega arith) ∙ b
-          ∙ ap (λ (k : ℕ). inverse (letter_at (x ∷ v) k)) (let e : suc (length v - 2) ≡ length (x ∷ v) - 2 = omega arith in e),
+          ∙ ap (λ (k : ℕ). inverse (letter_at (x ∷ v) k))
+          (let e : suc (length v - 2) ≡ length (x ∷ v) - 2 = omega arith in e),
     )
 
 -- what the two tests of letters say of a word
@@ -178,7 +194,8 @@ module _ (w : List ℤ) (x y : ℤ) (long : 2 ≤ length w) where
   pub begins_forwards : letter_at w 0 ≡ x → letter_at w 1 ≡ y → BeginsSomeWay x y w
   begins_forwards a b = (true, record { long = long; first = a; second = b })
 
-  pub begins_back : inverse (letter_at w (length w - 1)) ≡ x → inverse (letter_at w (length w - 2)) ≡ y → BeginsSomeWay x y w
+  pub begins_back : inverse (letter_at w (length w - 1)) ≡ x → inverse (letter_at w (length w - 2)) ≡ y
+      → BeginsSomeWay x y w
   begins_back a b = (
     false,
     record {

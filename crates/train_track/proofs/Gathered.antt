@@ -1,5 +1,6 @@
 -- Lists that a loop gathers, label by label.
-use Rattle.std.proofs.Common.{ℕ, ℤ, List, [], ◌∷◌, ◌++◌, ◌≡◌, ◌+◌, refl, sym, ◌∙◌, ap, map, arith, Bool, true, false, cond}
+use Rattle.std.proofs.Common.{ℕ, ℤ, List, [], ◌∷◌, ◌++◌, ◌≡◌, ◌+◌, refl, sym, ◌∙◌, ap, map, arith, Bool, true, false}
+use Rattle.std.proofs.Common.{cond}
 use Rattle.std.specs.List.{filter, flat_map, range_with_len}
 use Rattle.std.proofs.lemmas.List.{map-append, append-nil}
 use Rattle.std.proofs.lemmas.Grind.{flat_map-append}
@@ -16,7 +17,8 @@ gathered_more {X} {Y} h f g k x ys new so_far is_x is_new =
     ∙ ap (λ (zs : List X). map h (flat_map f (map g (range_with_len 0 k)) ++ zs)) (sym (append-nil (f x)))
     ∙ ap (map h) (sym (flat_map-append f (map g (range_with_len 0 k)) (x ∷ [])))
     ∙ ap (λ (y : ℤ). map h (flat_map f (map g (range_with_len 0 k) ++ (y ∷ [])))) is_x
-    ∙ ap (λ (zs : List ℤ). map h (flat_map f zs)) (sym (map-range_with_len_more g 0 k k (let e : 0 + k ≡ k = omega arith in e)))
+    ∙ ap (λ (zs : List ℤ). map h (flat_map f zs))
+    (sym (map-range_with_len_more g 0 k k (let e : 0 + k ≡ k = omega arith in e)))
 
 module _ {X : Type 0} (p : X → Bool) (g : ℕ → X) (k : ℕ) (x : X) (found new : List X) where
   pub kept_more : found ≡ filter p (map g (range_with_len 0 k)) → x ≡ g k → p x ≡ true → new ≡ found ++ (x ∷ [])
@@ -25,7 +27,8 @@ module _ {X : Type 0} (p : X → Bool) (g : ℕ → X) (k : ℕ) (x : X) (found 
       is_new
       ∙ ap (λ (zs : List X). zs ++ (x ∷ [])) so_far
       ∙ ap (λ (y : X). filter p (map g (range_with_len 0 k)) ++ (y ∷ [])) is_x
-      ∙ ap (λ (b : Bool). filter p (map g (range_with_len 0 k)) ++ cond b (g k ∷ []) []) (sym (ap p (sym is_x) ∙ passes))
+      ∙ ap (λ (b : Bool). filter p (map g (range_with_len 0 k)) ++ cond b (g k ∷ []) [])
+      (sym (ap p (sym is_x) ∙ passes))
       ∙ sym (filter_of_map_range_with_len_more p g 0 k k (let e : 0 + k ≡ k = omega arith in e))
 
   pub dropped_more : found ≡ filter p (map g (range_with_len 0 k)) → x ≡ g k → p x ≡ false → new ≡ found

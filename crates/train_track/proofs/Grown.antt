@@ -1,9 +1,11 @@
 -- Each branch has two or three letters, and the first two settle it.
 --
--- A branch is a legal walk whose first and last letters alone are switches. Of two neighbours one is a switch, so at most
--- one letter lies between them, and that letter has one continuation. So the branch is grown from its first two letters; and
--- what is grown from a switch and a legal continuation is a branch. Its inverse is one too, with other first two letters.
-use Rattle.std.proofs.Common.{ℕ, zero, suc, ℤ, pos, Bool, true, false, List, [], ◌∷◌, ◌++◌, ◌≡◌, ◌≢◌, ◌<◌, ◌⊎◌, inl, inr, refl, sym, ◌∙◌, ap, subst, if◌then◌else◌}
+-- A branch is a legal walk whose first and last letters alone are switches. Of two neighbours one is a switch, so at
+-- most one letter lies between them, and that letter has one continuation. So the branch is grown from its first two
+-- letters; and what is grown from a switch and a legal continuation is a branch. Its inverse is one too, with other
+-- first two letters.
+use Rattle.std.proofs.Common.{ℕ, zero, suc, ℤ, pos, Bool, true, false, List, [], ◌∷◌, ◌++◌, ◌≡◌, ◌≢◌, ◌<◌, ◌⊎◌, inl}
+use Rattle.std.proofs.Common.{inr, refl, sym, ◌∙◌, ap, subst, if◌then◌else◌}
 use Rattle.std.specs.List.{All}
 use Rattle.std.proofs.lemmas.Bool.{true≢false, cases_Bool}
 use Rattle.std.proofs.lemmas.List.Elements.{All-nil, All-cons, All-head, All-tail}
@@ -15,7 +17,8 @@ use Rattle.ideal_tri.specs.Triangulations.{IsLabel, IsWalk, triangle_of, next, p
 use Rattle.train_track.specs.Tracks.{is_left_out, is_switch, IsLegalPair, IsLegal, IsSingleInTriangles}
 use Rattle.train_track.specs.Branches.{IsBranch, letter_at}
 use Rattle.train_track.specs.inside.Growing.{continuation, grow}
-use Rattle.train_track.proofs.Turns.{IsTurn, legal_on, legal_back, legal_inverse, turn, turn_label, turn_triangle, switch_inverse}
+use Rattle.train_track.proofs.Turns.{IsTurn, legal_on, legal_back, legal_inverse, turn, turn_label, turn_triangle}
+use Rattle.train_track.proofs.Turns.{switch_inverse}
 use Rattle.train_track.proofs.Turns.{continues, only_continuation, one_is_switch}
 
 -- the first two letters of a branch
@@ -27,7 +30,8 @@ pub record Begun (ts : List (List ℤ)) (out : List ℤ) (b : List ℤ) : Type 0
   pub turns : IsTurn ts out first second
   pub is : b ≡ grow ts out first second
 
-pub grow-switch : (ts : List (List ℤ)) (out : List ℤ) (x y : ℤ) → is_switch ts out y ≡ true → grow ts out x y ≡ x ∷ (y ∷ [])
+pub grow-switch : (ts : List (List ℤ)) (out : List ℤ) (x y : ℤ) → is_switch ts out y ≡ true
+    → grow ts out x y ≡ x ∷ (y ∷ [])
 unfolding grow
 grow-switch ts out x y e = ap (λ (b : Bool). if b then x ∷ (y ∷ []) else (x ∷ (y ∷ (continuation ts out y ∷ [])))) e
 
@@ -78,7 +82,8 @@ module _ (ts : List (List ℤ)) (out : List ℤ) (labels : LabelLaws) (triangles
     others = All-nil (λ x. is_switch ts out x ≡ false);
   }
 
-  pub three_letters : (x y z : ℤ) → IsLabel ts x → is_switch ts out x ≡ true → IsTurn ts out x y → is_switch ts out y ≡ false
+  pub three_letters : (x y z : ℤ) → IsLabel ts x → is_switch ts out x ≡ true → IsTurn ts out x y
+      → is_switch ts out y ≡ false
       → IsTurn ts out y z → is_switch ts out z ≡ true → IsBranch ts out (x ∷ (y ∷ (z ∷ [])))
   three_letters x y z l s h plain g t =
       let m : IsLabel ts y = turn_label ts out labels triangles x y l h in
@@ -111,7 +116,8 @@ module _ (ts : List (List ℤ)) (out : List ℤ) (labels : LabelLaws) (triangles
         let g : IsTurn ts out y (continuation ts out y) = continues ts out labels triangles single y m in
         (g, one_is_switch ts out labels triangles single y (continuation ts out y) m g plain)
 
-    pub grown : (x y : ℤ) → IsLabel ts x → is_switch ts out x ≡ true → IsTurn ts out x y → IsBranch ts out (grow ts out x y)
+    pub grown : (x y : ℤ) → IsLabel ts x → is_switch ts out x ≡ true → IsTurn ts out x y
+        → IsBranch ts out (grow ts out x y)
     grown x y l s h =
         grown_cases ts out x y (IsBranch ts out) (λ e. two_letters x y l s h e)
         (λ e. (let (g, t) = ends_switch x y l h e in three_letters x y (continuation ts out y) l s h e g t))
@@ -154,21 +160,28 @@ module _ (ts : List (List ℤ)) (out : List ℤ) (labels : LabelLaws) (triangles
     begun b h =
         subst (Begun ts out) (sym h.letters)
         (begun_word h.first h.between h.last (triangle_of ts (inverse h.last))
-        (subst (λ (w : List ℤ). IsWalk ts (triangle_of ts h.first) w (triangle_of ts (inverse h.last))) h.letters h.walk)
+        (subst (λ (w : List ℤ). IsWalk ts (triangle_of ts h.first) w (triangle_of ts (inverse h.last))) h.letters
+        h.walk)
         (subst (IsLegal ts out) h.letters h.legal) h.begins h.ends h.others)
 
     -- two branches with the same first two letters are one
-    pub settled : (b c : List ℤ) → IsBranch ts out b → IsBranch ts out c → letter_at b 0 ≡ letter_at c 0 → letter_at b 1 ≡ letter_at c 1
+    pub settled : (b c : List ℤ) → IsBranch ts out b → IsBranch ts out c → letter_at b 0 ≡ letter_at c 0
+        → letter_at b 1 ≡ letter_at c 1
         → b ≡ c
     settled b c h k e f =
-        regrown b h ∙ ap (λ (x : ℤ). grow ts out x (letter_at b 1)) e ∙ ap (grow ts out (letter_at c 0)) f ∙ sym (regrown c k)
+        regrown b h
+        ∙ ap (λ (x : ℤ). grow ts out x (letter_at b 1)) e
+        ∙ ap (grow ts out (letter_at c 0)) f
+        ∙ sym (regrown c k)
       where
         regrown : (b : List ℤ) → IsBranch ts out b → b ≡ grow ts out (letter_at b 0) (letter_at b 1)
         regrown b h =
             let g : Begun ts out b = begun b h in
             g.is
-            ∙ ap (λ (x : ℤ). grow ts out x g.second) (sym (ap (λ (w : List ℤ). letter_at w 0) g.is ∙ grow-first ts out g.first g.second))
-            ∙ ap (grow ts out (letter_at b 0)) (sym (ap (λ (w : List ℤ). letter_at w 1) g.is ∙ grow-second ts out g.first g.second))
+            ∙ ap (λ (x : ℤ). grow ts out x g.second)
+            (sym (ap (λ (w : List ℤ). letter_at w 0) g.is ∙ grow-first ts out g.first g.second))
+            ∙ ap (grow ts out (letter_at b 0))
+            (sym (ap (λ (w : List ℤ). letter_at w 1) g.is ∙ grow-second ts out g.first g.second))
 
     inverse_grown : (x y : ℤ) → IsLabel ts x → is_switch ts out x ≡ true → IsTurn ts out x y
         → IsBranch ts out (inverse_word (grow ts out x y))
@@ -180,7 +193,8 @@ module _ (ts : List (List ℤ)) (out : List ℤ) (labels : LabelLaws) (triangles
         (inverse_turn x y l h) s')
         (λ e. (let (g, t) = ends_switch x y l h e in
         let z : ℤ = continuation ts out y in
-        three_letters (inverse z) (inverse y) (inverse x) (labels.label ts z (turn_label ts out labels triangles y z m g))
+        three_letters (inverse z) (inverse y) (inverse x)
+        (labels.label ts z (turn_label ts out labels triangles y z m g))
         (switch_inverse labels ts out z ∙ t) (inverse_turn y z m g) (switch_inverse labels ts out y ∙ e)
         (inverse_turn x y l h) s'))
 
@@ -188,7 +202,8 @@ module _ (ts : List (List ℤ)) (out : List ℤ) (labels : LabelLaws) (triangles
     pub inverse_branch : (b : List ℤ) → IsBranch ts out b → IsBranch ts out (inverse_word b)
     inverse_branch b h =
         let g : Begun ts out b = begun b h in
-        subst (λ (w : List ℤ). IsBranch ts out (inverse_word w)) (sym g.is) (inverse_grown g.first g.second g.label g.switch g.turns)
+        subst (λ (w : List ℤ). IsBranch ts out (inverse_word w)) (sym g.is)
+        (inverse_grown g.first g.second g.label g.switch g.turns)
 
     -- a turn is not back across the edge that was crossed
     pub turn_apart : (x y : ℤ) → IsLabel ts x → IsTurn ts out x y → y ≢ inverse x
@@ -202,7 +217,8 @@ module _ (ts : List (List ℤ)) (out : List ℤ) (labels : LabelLaws) (triangles
         → ¬ ((letter_at (inverse_word b) 0 ≡ letter_at b 0) × (letter_at (inverse_word b) 1 ≡ letter_at b 1))
     begins_otherwise b h =
         let g : Begun ts out b = begun b h in
-        subst (λ (w : List ℤ). ¬ ((letter_at (inverse_word w) 0 ≡ letter_at w 0) × (letter_at (inverse_word w) 1 ≡ letter_at w 1)))
+        subst (λ (w : List ℤ). ¬
+        ((letter_at (inverse_word w) 0 ≡ letter_at w 0) × (letter_at (inverse_word w) 1 ≡ letter_at w 1)))
         (sym g.is)
         (grown_cases ts out g.first g.second
         (λ w. ¬ ((letter_at (inverse_word w) 0 ≡ letter_at w 0) × (letter_at (inverse_word w) 1 ≡ letter_at w 1)))
@@ -216,7 +232,8 @@ module _ (ts : List (List ℤ)) (out : List ℤ) (labels : LabelLaws) (triangles
         let y : ℤ = g.second in
         subst (λ (w : List ℤ). inverse_word (inverse_word w) ≡ w) (sym g.is)
         (grown_cases ts out x y (λ w. inverse_word (inverse_word w) ≡ w)
-        (λ e. ap (λ (u : ℤ). u ∷ (inverse (inverse y) ∷ [])) (labels.twice x) ∙ ap (λ (u : ℤ). x ∷ (u ∷ [])) (labels.twice y))
+        (λ e. ap (λ (u : ℤ). u ∷ (inverse (inverse y) ∷ [])) (labels.twice x) ∙ ap (λ (u : ℤ). x ∷ (u ∷ []))
+        (labels.twice y))
         (λ e. (let z : ℤ = continuation ts out y in
         ap (λ (u : ℤ). u ∷ (inverse (inverse y) ∷ (inverse (inverse z) ∷ []))) (labels.twice x)
         ∙ ap (λ (u : ℤ). x ∷ (u ∷ (inverse (inverse z) ∷ []))) (labels.twice y)

@@ -1,9 +1,11 @@
 -- Left-out corners: in triangles, at vertices, and in the order of labels.
-use Rattle.std.proofs.Common.{ℕ, zero, suc, ℤ, pos, Bool, true, false, ◌||◌, List, [], ◌∷◌, ◌≡◌, ◌≢◌, ◌<◌, ◌≤◌, ◌+◌, ◌⊎◌, inl, inr, refl, sym, ◌∙◌, ap, subst, arith, length, map, get_or}
+use Rattle.std.proofs.Common.{ℕ, zero, suc, ℤ, pos, Bool, true, false, ◌||◌, List, [], ◌∷◌, ◌≡◌, ◌≢◌, ◌<◌, ◌≤◌, ◌+◌}
+use Rattle.std.proofs.Common.{◌⊎◌, inl, inr, refl, sym, ◌∙◌, ap, subst, arith, length, map, get_or}
 use Rattle.std.specs.Prelude.{nat_eq, slice_get, Some}
 use Rattle.std.specs.List.{All, AllPairs, Contains, list_any}
 use Rattle.std.specs.Ordering.{int_eq}
-use Rattle.std.proofs.lemmas.Bool.{true≢false, cases_Bool, or_cases, or_left, or_right, or_from, and_parts, and_from, eq-eqb, eqb-true}
+use Rattle.std.proofs.lemmas.Bool.{true≢false, cases_Bool, or_cases, or_left, or_right, or_from, and_parts, and_from}
+use Rattle.std.proofs.lemmas.Bool.{eq-eqb, eqb-true}
 use Rattle.std.proofs.lemmas.List.{get_or-map, length-map, get_or_default}
 use Rattle.std.proofs.lemmas.Option.{get_or_from_slice_get}
 use Rattle.std.proofs.lemmas.List.Elements.{All-contains}
@@ -33,7 +35,8 @@ listed_out labels (x ∷ out) y e = elim (or_cases _ _ e) [
 
 pub out_listed : LabelLaws → (out : List ℤ) (y : ℤ) → Contains out y → is_left_out out y ≡ true
 unfolding is_left_out
-out_listed labels out y (k, within, is) = list_any_at (λ z. int_eq z y) out k y within (labels.test_same (get_or out k y) y is)
+out_listed labels out y (k, within, is) =
+    list_any_at (λ z. int_eq z y) out k y within (labels.test_same (get_or out k y) y is)
 
 -- ---- in triangles
 
@@ -120,18 +123,22 @@ module _ (ts : List (List ℤ)) (out : List ℤ) (labels : LabelLaws) (triangles
       which : (u : ℤ) → IsLabel ts u → triangle_of ts u ≡ t → (u ≡ x) ⊎ ((u ≡ y) ⊎ (u ≡ z))
       which u m there = elim (triangles.sides x u l m (there ∙ sym at)) [
         | inl e ↦ inl e
-        | inr k ↦ elim k [ inl e ↦ inr (inl (e ∙ sym is_y)) | inr e ↦ inr (inr (e ∙ ap (next ts) (sym is_y) ∙ sym is_z)) ]
+        | inr k ↦
+            elim k [ inl e ↦ inr (inl (e ∙ sym is_y)) | inr e ↦ inr (inr (e ∙ ap (next ts) (sym is_y) ∙ sym is_z)) ]
       ]
 
   pub single_from_none : (n : ℕ) → length ts ≤ n → ((t : ℕ) → t < n → ¬ HasTwo ts out t) → IsSingleInTriangles ts out
   single_from_none n all none x y l m e f same = elim (labels.same_or_not x y) [
     | inl is ↦ is
-    | inr apart ↦ absurd (none (triangle_of ts x) (let within : triangle_of ts x < length ts = triangles.triangle x l in omega arith)
+    | inr apart ↦
+        absurd (none (triangle_of ts x)
+        (let within : triangle_of ts x < length ts = triangles.triangle x l in omega arith)
         (two_there (triangle_of ts x) x y l m apart refl (sym same) (e, f)))
   ]
 
   -- the first side of a triangle
-  pub side_of_triple : (t : ℕ) (triple : List ℤ) (x : ℤ) → t < length ts → slice_get ts t ≡ Some triple → 0 < length triple → x ≡ get_or triple 0 x
+  pub side_of_triple : (t : ℕ) (triple : List ℤ) (x : ℤ) → t < length ts → slice_get ts t ≡ Some triple
+      → 0 < length triple → x ≡ get_or triple 0 x
       → IsLabel ts x × (triangle_of ts x ≡ t)
   side_of_triple t triple x within is some at =
       triangles.listed t x within
@@ -139,7 +146,8 @@ module _ (ts : List (List ℤ)) (out : List ℤ) (labels : LabelLaws) (triangles
 
 -- ---- at vertices
 
-module _ (ts : List (List ℤ)) (out : List ℤ) (labels : LabelLaws) (vertices : PunctureLaws ts) (are : All (IsLabel ts) out) where
+module _ (ts : List (List ℤ)) (out : List ℤ) (labels : LabelLaws) (vertices : PunctureLaws ts)
+    (are : All (IsLabel ts) out) where
   -- a vertex among those of the corners
   vertex_there : (v : ℕ) (some : List ℤ) → list_any (λ u. nat_eq u v) (map (vertex_of ts) some) ≡ true
       → (y : ℤ) × Contains some y × (vertex_of ts y ≡ v)
@@ -149,7 +157,8 @@ module _ (ts : List (List ℤ)) (out : List ℤ) (labels : LabelLaws) (vertices 
     | inr h ↦ (let (y, has, is) = vertex_there v some h in (y, contains_later x some y has, is))
   ]
 
-  vertex_listed : (v : ℕ) (y : ℤ) → Contains out y → vertex_of ts y ≡ v → list_any (λ u. nat_eq u v) (map (vertex_of ts) out) ≡ true
+  vertex_listed : (v : ℕ) (y : ℤ) → Contains out y → vertex_of ts y ≡ v
+      → list_any (λ u. nat_eq u v) (map (vertex_of ts) out) ≡ true
   vertex_listed v y (k, within, at) is =
       list_any_at (λ u. nat_eq u v) (map (vertex_of ts) out) k v (omega (arith, length-map out (vertex_of ts)))
       (eq-eqb _ _ (get_or-map (vertex_of ts) out k y v within ∙ ap (vertex_of ts) at ∙ is))
@@ -189,5 +198,6 @@ module _ (ts : List (List ℤ)) (out : List ℤ) (labels : LabelLaws) (vertices 
 pub placed_labels : (ts : List (List ℤ)) (out : List ℤ) → ArePlaced ts out → All (IsLabel ts) out
 placed_labels ts out h k d within = subst (IsLabel ts) (get_or_default out k (pos 0) d within) (h k within).0
 
-pub placed_from : (ts : List (List ℤ)) (out : List ℤ) → All (IsLabel ts) out → AllPairs (λ x y. rank x < rank y) out → ArePlaced ts out
+pub placed_from : (ts : List (List ℤ)) (out : List ℤ) → All (IsLabel ts) out → AllPairs (λ x y. rank x < rank y) out
+    → ArePlaced ts out
 placed_from ts out are order i within = (are i (pos 0) within, λ j e. order j i (pos 0) (omega arith) within)

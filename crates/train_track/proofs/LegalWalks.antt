@@ -1,5 +1,6 @@
 -- The test of legal walks, neighbour by neighbour.
-use Rattle.std.proofs.Common.{ℕ, zero, suc, ℤ, pos, true, false, List, [], ◌∷◌, ◌≡◌, ◌<◌, ◌≤◌, ◌+◌, refl, sym, ◌∙◌, ap, subst, arith, length, get_or}
+use Rattle.std.proofs.Common.{ℕ, zero, suc, ℤ, pos, true, false, List, [], ◌∷◌, ◌≡◌, ◌<◌, ◌≤◌, ◌+◌, refl, sym, ◌∙◌, ap}
+use Rattle.std.proofs.Common.{subst, arith, length, get_or}
 use Rattle.std.specs.List.{All}
 use Rattle.std.proofs.lemmas.Bool.{true≢false}
 use Rattle.std.proofs.lemmas.List.{get_or_default}
@@ -20,7 +21,8 @@ walk_labels ts s (x ∷ w) t h = All-cons (IsLabel ts) x w h.0 (walk_labels ts (
 
 module _ (ts : List (List ℤ)) (out : List ℤ) (labels : LabelLaws) (triangles : TriangleLaws ts) where
   pub legal_from : (w : List ℤ) (n : ℕ) → All (IsLabel ts) w → length w ≤ n
-      → ((k j : ℕ) → j ≡ k + 1 → j < n → is_legal_pair ts out (get_or w k (pos 0)) (get_or w j (pos 0)) ≡ true) → IsLegal ts out w
+      → ((k j : ℕ) → j ≡ k + 1 → j < n → is_legal_pair ts out (get_or w k (pos 0)) (get_or w j (pos 0)) ≡ true)
+      → IsLegal ts out w
   legal_from [] n are all h = tt
   legal_from (x ∷ []) n are all h = tt
   legal_from (x ∷ (y ∷ w)) zero are all h = absurd (omega arith)
@@ -45,11 +47,13 @@ module _ (ts : List (List ℤ)) (out : List ℤ) (labels : LabelLaws) (triangles
   legal_at (x ∷ (y ∷ w)) (suc k) (suc j) are h e less =
       legal_at (y ∷ w) k j (All-tail (IsLabel ts) x (y ∷ w) are) h.1 (omega arith) (omega arith)
 
-  pub not_legal : (w : List ℤ) (k j : ℕ) (u v : ℤ) → All (IsLabel ts) w → j ≡ k + 1 → j < length w → u ≡ get_or w k u → v ≡ get_or w j v
+  pub not_legal : (w : List ℤ) (k j : ℕ) (u v : ℤ) → All (IsLabel ts) w → j ≡ k + 1 → j < length w → u ≡ get_or w k u
+      → v ≡ get_or w j v
       → is_legal_pair ts out u v ≡ false → ¬ IsLegal ts out w
   not_legal w k j u v are e less is_u is_v fails legal =
       true≢false
       (sym (legal_at w k j are legal e less)
-      ∙ ap (λ (x : ℤ). is_legal_pair ts out x (get_or w j (pos 0))) (sym (is_u ∙ get_or_default w k u (pos 0) (omega arith)))
+      ∙ ap (λ (x : ℤ). is_legal_pair ts out x (get_or w j (pos 0)))
+      (sym (is_u ∙ get_or_default w k u (pos 0) (omega arith)))
       ∙ ap (is_legal_pair ts out u) (sym (is_v ∙ get_or_default w j v (pos 0) less))
       ∙ fails)

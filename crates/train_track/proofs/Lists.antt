@@ -1,7 +1,9 @@
 -- Lists that are joined from the lists of several elements.
-use Rattle.std.proofs.Common.{ℕ, zero, suc, List, [], ◌∷◌, ◌++◌, ◌≡◌, ◌<◌, ◌+◌, ◌⊎◌, inl, inr, refl, sym, ◌∙◌, ap, subst, arith, length, map, get_or}
+use Rattle.std.proofs.Common.{ℕ, zero, suc, List, [], ◌∷◌, ◌++◌, ◌≡◌, ◌<◌, ◌+◌, ◌⊎◌, inl, inr, refl, sym, ◌∙◌, ap}
+use Rattle.std.proofs.Common.{subst, arith, length, map, get_or}
 use Rattle.std.specs.List.{All, AllPairs, Contains, flat_map, range_with_len}
-use Rattle.std.proofs.lemmas.List.Elements.{All-nil, All-cons, All-head, All-tail, All-append, All-weaker, Contains-append_left, Contains-append_right}
+use Rattle.std.proofs.lemmas.List.Elements.{All-nil, All-cons, All-head, All-tail, All-append, All-weaker}
+use Rattle.std.proofs.lemmas.List.Elements.{Contains-append_left, Contains-append_right}
 use Rattle.std.proofs.lemmas.List.Kept.{AllPairs-cons}
 
 pub contains_here : {X : Type 0} (x : X) (xs : List X) → Contains (x ∷ xs) x
@@ -27,7 +29,8 @@ pairs_none R i j d less within = absurd (omega arith)
 pub pairs_one : {X : Type 0} (R : X → X → Type 0) (x : X) → AllPairs R (x ∷ [])
 pairs_one R x = AllPairs-cons R x [] (All-nil (R x)) (pairs_none R)
 
-pub pairs_append : {X : Type 0} (R : X → X → Type 0) (xs ys : List X) → AllPairs R xs → AllPairs R ys → All (λ x. All (R x) ys) xs
+pub pairs_append : {X : Type 0} (R : X → X → Type 0) (xs ys : List X) → AllPairs R xs → AllPairs R ys
+    → All (λ x. All (R x) ys) xs
     → AllPairs R (xs ++ ys)
 pairs_append R [] ys h k across = k
 pairs_append R (x ∷ xs) ys h k across =
@@ -39,7 +42,8 @@ module _ {X Y : Type 0} (f : X → List Y) where
   pub all_joined : (P : Y → Type 0) (xs : List X) → All (λ x. All P (f x)) xs → All P (flat_map f xs)
   all_joined P [] h = All-nil P
   all_joined P (x ∷ xs) h =
-      All-append P (f x) (flat_map f xs) (All-head (λ x. All P (f x)) x xs h) (all_joined P xs (All-tail (λ x. All P (f x)) x xs h))
+      All-append P (f x) (flat_map f xs) (All-head (λ x. All P (f x)) x xs h)
+      (all_joined P xs (All-tail (λ x. All P (f x)) x xs h))
 
   pub contains_joined : (xs : List X) (x : X) (y : Y) → Contains xs x → Contains (f x) y → Contains (flat_map f xs) y
   contains_joined [] x y (k, within, is) h = absurd (omega arith)
@@ -60,4 +64,5 @@ module _ {X Y : Type 0} (f : X → List Y) where
     where
       over : (ys : List Y) → All (S x) xs → All (λ y. All (R y) (flat_map f xs)) (f x)
       over ys later =
-          λ k d within. all_joined (R (get_or (f x) k d)) xs (λ i e inside. across x (get_or xs i e) (later i e inside) k d within)
+          λ k d within. all_joined (R (get_or (f x) k d)) xs
+          (λ i e inside. across x (get_or xs i e) (later i e inside) k d within)

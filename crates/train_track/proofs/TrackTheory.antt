@@ -1,5 +1,6 @@
 -- The laws of tracks, from the lemmas on turns, branches and passes.
-use Rattle.std.proofs.Common.{ℕ, zero, suc, ℤ, pos, Bool, true, false, List, [], ◌∷◌, ◌++◌, ◌≡◌, ◌≢◌, ◌<◌, ◌≤◌, ◌⊎◌, inl, inr, refl, sym, ◌∙◌, ap, subst, arith, length, get_or, append_assoc}
+use Rattle.std.proofs.Common.{ℕ, zero, suc, ℤ, pos, Bool, true, false, List, [], ◌∷◌, ◌++◌, ◌≡◌, ◌≢◌, ◌<◌, ◌≤◌, ◌⊎◌}
+use Rattle.std.proofs.Common.{inl, inr, refl, sym, ◌∙◌, ap, subst, arith, length, get_or, append_assoc}
 use Rattle.std.specs.List.{All}
 use Rattle.std.proofs.lemmas.Bool.{cases_Bool, false_from_ne_true}
 use Rattle.ideal_tri.specs.Labels.{inverse}
@@ -13,8 +14,10 @@ use Rattle.train_track.specs.Branches.{IsBranch, IsBranchList, letter_at}
 use Rattle.train_track.specs.Passes.{Pass, AreGlued, ArePassesOf, IsFromSwitchToSwitch}
 use Rattle.train_track.specs.TrackLaws.{TurnLaws, BranchLaws, ListLaws, TrackLaws}
 use Rattle.train_track.specs.inside.Growing.{continuation, grow}
-use Rattle.train_track.proofs.Turns.{IsTurn, turn, turn_label, legal_inverse, continues, only_continuation, one_is_switch, fork_in_triangle}
-use Rattle.train_track.proofs.Grown.{Begun, begun, grown, grown_cases, grow-first, settled, inverse_branch, legal_turn, turn_apart}
+use Rattle.train_track.proofs.Turns.{IsTurn, turn, turn_label, legal_inverse, continues, only_continuation}
+use Rattle.train_track.proofs.Turns.{one_is_switch, fork_in_triangle}
+use Rattle.train_track.proofs.Grown.{Begun, begun, grown, grown_cases, grow-first, settled, inverse_branch, legal_turn}
+use Rattle.train_track.proofs.Grown.{turn_apart}
 use Rattle.train_track.proofs.Listed.{one_listed, not_two_listed}
 use Rattle.train_track.proofs.CutLegal.{pass_of, cut}
 use Rattle.train_track.proofs.LegalWalks.{walk_labels}
@@ -23,7 +26,8 @@ use Rattle.train_track.proofs.LegalWalks.{walk_labels}
 glued_joined : (bs : List (List ℤ)) (x : ℤ) (first second : List Pass) (u v : List ℤ) → AreGlued bs x first u
     → AreGlued bs (last_of x u) second v → AreGlued bs x (first ++ second) (u ++ v)
 glued_joined bs x [] second u v h k =
-    subst (λ (w : List ℤ). AreGlued bs x second (w ++ v)) (sym h) (subst (λ (w : List ℤ). AreGlued bs (last_of x w) second v) h k)
+    subst (λ (w : List ℤ). AreGlued bs x second (w ++ v)) (sym h)
+    (subst (λ (w : List ℤ). AreGlued bs (last_of x w) second v) h k)
 glued_joined bs x (p ∷ first) second u v (a, b, within, is, split, rest) k = (
   a,
   b ++ v,
@@ -50,7 +54,8 @@ module _ (labels : LabelLaws) (surface : SurfaceLaws) (ts : List (List ℤ)) (ou
       let (l, at) = laws_of.listed t (get_or triple 0 (pos 0)) within (first_of_three triple three) in
       (get_or triple 0 (pos 0), l, at)
     where
-      first_of_three : (triple : List ℤ) → length triple ≡ 3 → (k : ℕ) × (k < length triple) × (get_or triple k (get_or triple 0 (pos 0)) ≡ get_or triple 0 (pos 0))
+      first_of_three : (triple : List ℤ) → length triple ≡ 3
+          → (k : ℕ) × (k < length triple) × (get_or triple k (get_or triple 0 (pos 0)) ≡ get_or triple 0 (pos 0))
       first_of_three [] e = absurd (omega arith)
       first_of_three (x ∷ xs) e = (0, omega arith, refl)
 

@@ -1,5 +1,6 @@
 -- The branches of a track, and the order in which they are listed.
-use Rattle.std.specs.Prelude.{◌≡◌, ◌<◌, ◌&&◌, ◌||◌, ℕ, ℤ, pos, Bool, true, false, List, [], ◌∷◌, ◌++◌, map}
+use Rattle.std.specs.Prelude.{◌≡◌, ◌<◌, ◌&&◌, ◌||◌, ℕ, ℤ, pos, Bool, true, false, List, [], ◌∷◌}
+use Rattle.std.specs.Prelude.{◌++◌, map}
 use Rattle.std.specs.Prelude.{nat_lt, slice_index_or, All, AllPairs, Contains}
 use Rattle.std.specs.Ordering.{int_eq}
 use Rattle.ideal_tri.specs.Labels.{inverse}
@@ -10,7 +11,8 @@ use Rattle.tri_atlas.specs.Arena.{Arena, triangulation, IsTriIn}
 use Rattle.free_groupoid.specs.Walks.{DualWalk, IsWalkOn}
 use Rattle.train_track.specs.Tracks.{ArePlaced, IsFilling, IsLegal, is_switch, switches_of}
 
--- a legal walk of at least two letters whose first and last letters are switches, and whose others aren't
+-- a legal walk of at least two letters whose first and last letters are switches, and whose others
+-- aren't
 pub record IsBranch (triples : List (List ℤ)) (left_out : List ℤ) (b : List ℤ) : Type 0 where
   pub first : ℤ
   pub between : List ℤ
@@ -36,10 +38,12 @@ abbrev pub is_before : List ℤ → List ℤ → Bool
 is_before b c = are_before (letter_at b 0) (letter_at b 1) (letter_at c 0) (letter_at c 1)
 
 -- the list of branches: of a branch and its inverse it has the one that is found first
-pub record IsBranchList (triples : List (List ℤ)) (left_out : List ℤ) (branches : List (List ℤ)) : Type 0 where
+pub record IsBranchList (triples : List (List ℤ)) (left_out : List ℤ) (branches : List (List ℤ))
+    : Type 0 where
   pub branch : All (IsBranch triples left_out) branches
   pub first : All (λ b. is_before (inverse_word b) b ≡ false) branches
-  pub all : (b : List ℤ) → IsBranch triples left_out b → is_before (inverse_word b) b ≡ false → Contains branches b
+  pub all : (b : List ℤ) → IsBranch triples left_out b → is_before (inverse_word b) b ≡ false
+      → Contains branches b
   pub order : AllPairs (λ b c. is_before b c ≡ true) branches
 
 -- ---- tracks as contracts see them

@@ -5,7 +5,8 @@ use Rattle.ideal_tri.specs.Vectors.{corner_count}
 use Rattle.ideal_tri.specs.Vertices.{ordered_labels, vertex_of, vertex_count}
 use Rattle.train_track.specs.Tracks.{is_left_out, IsPlaced, ArePlaced, IsSingleInTriangles}
 use Rattle.train_track.specs.declared.track.TrackError.{TrackError}
-use Rattle.train_track.specs.declared.track.TrackError.TheVariants.{NotLabel, TwoLeftOut, VertexClosed, Memory}
+use Rattle.train_track.specs.declared.track.TrackError.TheVariants.{NotLabel, TwoLeftOut}
+use Rattle.train_track.specs.declared.track.TrackError.TheVariants.{VertexClosed, Memory}
 
 -- i is the first place of an entry that is no label, or not above the one before
 pub record IsFirstMisplaced (triples : List (List ℤ)) (left_out : List ℤ) (i : ℕ) : Type 0 where

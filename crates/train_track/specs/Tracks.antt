@@ -1,6 +1,8 @@
--- Train tracks (after Penner and Harer). A track leaves out some corners of the triangles. At each other corner, which is
--- kept, it joins the two sides there. The corner named x lies between x and the side after it.
-use Rattle.std.specs.Prelude.{◌≡◌, ◌≢◌, ◌<◌, ◌+◌, ◌&&◌, ◌||◌, ◌⊎◌, ℕ, ℤ, pos, Bool, true, false, not, List, []}
+-- Train tracks (after Penner and Harer). A track leaves out some corners of the triangles. At each
+-- other corner, which is kept, it joins the two sides there. The corner named x lies between x and
+-- the side after it.
+use Rattle.std.specs.Prelude.{◌≡◌, ◌≢◌, ◌<◌, ◌+◌, ◌&&◌, ◌||◌, ◌⊎◌, ℕ, ℤ, pos, Bool, true, false}
+use Rattle.std.specs.Prelude.{not, List, []}
 use Rattle.std.specs.Prelude.{length, map, filter, slice_index_or}
 use Rattle.std.specs.List.{list_any, range_with_len}
 use Rattle.std.specs.Ordering.{int_eq}
@@ -18,7 +20,8 @@ is_left_out left_out x = list_any (λ y. int_eq y x) left_out
 abbrev pub IsPlaced : List (List ℤ) → List ℤ → ℕ → Type 0
 IsPlaced triples xs i =
     IsLabel triples (slice_index_or xs i (pos 0))
-    × ((j : ℕ) → j + 1 ≡ i → rank (slice_index_or xs j (pos 0)) < rank (slice_index_or xs i (pos 0)))
+    × ((j : ℕ) → j + 1 ≡ i → rank (slice_index_or xs j (pos 0)) < rank
+    (slice_index_or xs i (pos 0)))
 
 -- all entries are
 abbrev pub ArePlaced : List (List ℤ) → List ℤ → Type 0
@@ -44,8 +47,8 @@ pub record IsFilling (triples : List (List ℤ)) (left_out : List ℤ) : Type 0 
 
 -- ---- legal walks
 
--- the neighbours u, v of a walk use the corner x, which lies between the sides inverse u and v of the triangle that they
--- meet in; so v is not inverse u
+-- the neighbours u, v of a walk use the corner x, which lies between the sides inverse u and v of
+-- the triangle that they meet in; so v is not inverse u
 abbrev pub UsesCorner : List (List ℤ) → ℤ → ℤ → ℤ → Type 0
 UsesCorner triples u v x =
     ((v ≡ next triples (inverse u)) × (x ≡ inverse u)) ⊎ ((inverse u ≡ next triples v) × (x ≡ v))
@@ -68,7 +71,8 @@ IsClosedLegal triples left_out w = (w ≢ []) × IsLegal triples left_out (close
 
 -- both corners of the side x are kept
 unfoldable pub is_fork : List (List ℤ) → List ℤ → ℤ → Bool
-is_fork triples left_out x = not (is_left_out left_out x) && not (is_left_out left_out (previous triples x))
+is_fork triples left_out x =
+    not (is_left_out left_out x) && not (is_left_out left_out (previous triples x))
 
 -- the edge of x has such a side
 unfoldable pub is_switch : List (List ℤ) → List ℤ → ℤ → Bool

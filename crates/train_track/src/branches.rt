@@ -1,5 +1,6 @@
 //! The branches of a track, from their first two letters.
-ghost use Rattle.std.specs.Prelude.{◌≡◌, ◌<◌, ◌≤◌, ◌+◌, ◌++◌, [], ◌∷◌, pos, length, map, slice_index_or, All, OnOk, IfOk};
+ghost use Rattle.std.specs.Prelude.{◌≡◌, ◌<◌, ◌≤◌, ◌+◌, ◌++◌, [], ◌∷◌, pos, length, map};
+ghost use Rattle.std.specs.Prelude.{slice_index_or, All, OnOk, IfOk};
 ghost use Rattle.ideal_tri.specs.Triangulations.{IsTriangulation, IsLabel};
 ghost use Rattle.free_groupoid.specs.Walks.{IsWalkOn};
 ghost use Rattle.train_track.specs.Tracks.{IsSingleInTriangles};

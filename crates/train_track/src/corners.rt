@@ -1,12 +1,15 @@
 //! Tests of the left-out corners.
-ghost use Rattle.std.specs.Prelude.{◌≡◌, ◌<◌, ◌↔◌, ℕ, ℤ, pos, true, IsTrue, length, IfSome, IfNone, IfOk};
+ghost use Rattle.std.specs.Prelude.{◌≡◌, ◌<◌, ◌↔◌, ℕ, ℤ, pos, true, IsTrue, length, IfSome, IfNone};
+ghost use Rattle.std.specs.Prelude.{IfOk};
 ghost use Rattle.std.specs.Prelude.{slice_index_or, All, map};
 ghost use Rattle.ideal_tri.specs.Triangulations.{IsTriangulation, IsLabel, triangle_of};
 ghost use Rattle.ideal_tri.specs.Vertices.{vertex_of};
 ghost use Rattle.tri_atlas.specs.Arena.{triangulation};
 ghost use Rattle.edge_coords.specs.Coordinates.{AreCoordinatesIn};
-ghost use Rattle.train_track.specs.Tracks.{is_left_out, IsPlaced, ArePlaced, IsSingleInTriangles, IsOpenAtVertices};
-ghost use Rattle.train_track.specs.Refusals.{IsFirstMisplaced, IsLeastWithTwo, HasTwo, IsLeastClosed, free_corners};
+ghost use Rattle.train_track.specs.Tracks.{is_left_out, IsPlaced, ArePlaced, IsSingleInTriangles};
+ghost use Rattle.train_track.specs.Tracks.{IsOpenAtVertices};
+ghost use Rattle.train_track.specs.Refusals.{IsFirstMisplaced, IsLeastWithTwo, HasTwo};
+ghost use Rattle.train_track.specs.Refusals.{IsLeastClosed, free_corners};
 ghost use Rattle.train_track.specs.inside.Corners.{two_of};
 
 use crate::legal::is_left_out;

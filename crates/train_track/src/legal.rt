@@ -1,7 +1,8 @@
 //! Kept corners, switches and legal pairs.
 ghost use Rattle.std.specs.Prelude.{◌≡◌, ◌↔◌, ℤ, true, IsTrue, IfOk, All};
 ghost use Rattle.ideal_tri.specs.Labels.{inverse};
-ghost use Rattle.ideal_tri.specs.Triangulations.{IsTriangulation, IsLabel, triangle_of, next, previous};
+ghost use Rattle.ideal_tri.specs.Triangulations.{IsTriangulation, IsLabel, triangle_of, next};
+ghost use Rattle.ideal_tri.specs.Triangulations.{previous};
 ghost use Rattle.train_track.specs.Tracks.{is_left_out, is_fork, is_switch, switches_of, IsLegal};
 ghost use Rattle.train_track.specs.inside.Growing.{is_legal_pair, continuation};
 

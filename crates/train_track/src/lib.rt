@@ -1,8 +1,8 @@
 //! Train tracks on ideal triangulations (after Penner and Harer; Mosher).
 //!
-//! A track is given by the corners of triangles that it leaves out: at most one in each triangle, and at least one at
-//! each vertex. A walk is legal where each two neighbours use a corner that is kept. A `Track` keeps the switches and
-//! the branches, and cuts legal walks into branches.
+//! A track is given by the corners of triangles that it leaves out: at most one in each triangle,
+//! and at least one at each vertex. A walk is legal where each two neighbours use a corner that is
+//! kept. A `Track` keeps the switches and the branches, and cuts legal walks into branches.
 //!
 //! On the once-punctured torus:
 //!
@@ -13,8 +13,9 @@
 //! // the one switch is 1, and the branches are 1 -1 1 and 1 -3 1
 //! ```
 //!
-//! The definitions stand in `specs/`, to be read in this order: `Tracks` (left-out corners, filling, legal, switch),
-//! `Branches`, `Passes`, `Refusals`; `TrackLaws` states what is proved of them.
+//! The definitions stand in `specs/`, to be read in this order: `Tracks` (left-out corners,
+//! filling, legal, switch), `Branches`, `Passes`, `Refusals`; `TrackLaws` states what is proved of
+//! them.
 #![tactic(auto)]
 
 mod branches;

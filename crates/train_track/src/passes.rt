@@ -1,5 +1,6 @@
 //! How a legal walk passes the branches.
-ghost use Rattle.std.specs.Prelude.{◌≡◌, ◌<◌, ◌≤◌, ◌*◌, ◌↔◌, ℕ, List, map, length, IsTrue, IfOk, All};
+ghost use Rattle.std.specs.Prelude.{◌≡◌, ◌<◌, ◌≤◌, ◌*◌, ◌↔◌, ℕ, List, map, length, IsTrue, IfOk};
+ghost use Rattle.std.specs.Prelude.{All};
 ghost use Rattle.train_track.specs.Branches.{words_of};
 ghost use Rattle.train_track.specs.Passes.{Pass, ArePassesOf};
 ghost use Rattle.train_track.specs.inside.Passing.{BeginsSomeWay, IsBeginning, CanBeCutInto};

@@ -20,8 +20,9 @@ use std::alloc::{AllocError, Global};
 use std::marker::Model;
 use tri_atlas::{Atlas, TriId};
 
-/// A filling track on a triangulation of an atlas (after Penner and Harer): it leaves out some corners of triangles, at
-/// most one in each triangle and at least one at each vertex, and joins the two sides at every other corner.
+/// A filling track on a triangulation of an atlas (after Penner and Harer): it leaves out some
+/// corners of triangles, at most one in each triangle and at least one at each vertex, and joins
+/// the two sides at every other corner.
 #[derive(Debug, Drop)]
 pub struct Track {
     tri: TriId,
@@ -30,11 +31,12 @@ pub struct Track {
     branches: Vec<Walk>,
 }
 
-/// Why corners are not those that a filling track leaves out. The tests are made in this order, each over all entries,
-/// triangles or vertices before the next.
+/// Why corners are not those that a filling track leaves out. The tests are made in this order,
+/// each over all entries, triangles or vertices before the next.
 #[derive(Clone, Copy, Debug, PartialEq, Eq)]
 pub enum TrackError {
-    /// The first place of an entry that is no label, or not above the entry before in the order of labels.
+    /// The first place of an entry that is no label, or not above the entry before in the order of
+    /// labels.
     NotLabel(u64),
     /// The least triangle with two left-out corners.
     TwoLeftOut(u64),
@@ -82,8 +84,8 @@ impl Model for Track {
 }
 
 impl Track {
-    /// The track that leaves out these corners, which stand in the order of labels, 0, -1, 1, -2, 2 and so on. A corner
-    /// is named by the side that it follows.
+    /// The track that leaves out these corners, which stand in the order of labels, 0, -1, 1, -2, 2
+    /// and so on. A corner is named by the side that it follows.
     pub fn from_list(
         alloc: Global,
         atlas: &Atlas,
@@ -102,7 +104,8 @@ impl Track {
         Track::of_corners(alloc, atlas, t, left_out)
     }
 
-    /// The track that leaves out the corners without strands of a multicurve. The refusal is never `NotLabel`.
+    /// The track that leaves out the corners without strands of a multicurve. The refusal is never
+    /// `NotLabel`.
     pub fn from_coords(alloc: Global, atlas: &Atlas, w: &Coords) -> Result<Track, TrackError>
         requires { AreCoordinatesIn atlas.now w.now }
         ensures accepted { IfOk result (λ track. (track.tri ≡ w.now.tri)
@@ -161,17 +164,18 @@ impl Track {
         &self.left_out
     }
 
-    /// The switches, each by its label that isn't negative, in the order of their numbers. A switch is an edge one of
-    /// whose sides has both its corners kept.
+    /// The switches, each by its label that isn't negative, in the order of their numbers. A switch
+    /// is an edge one of whose sides has both its corners kept.
     pub fn switches(&self) -> &[Label]
         ensures { result.now ≡ self.now.switches }
     {
         &self.switches
     }
 
-    /// The branches, one for each pair of a branch and its inverse: of the two the one that is found first, by first
-    /// letter and then by second, in the order of labels. A branch is a legal walk of at least two letters whose first
-    /// and last letters are switches and whose others aren't.
+    /// The branches, one for each pair of a branch and its inverse: of the two the one that is
+    /// found first, by first letter and then by second, in the order of labels. A branch is a legal
+    /// walk of at least two letters whose first and last letters are switches and whose others
+    /// aren't.
     pub fn branches(&self) -> &[Walk]
         ensures { result.now ≡ self.now.branches }
     {
@@ -188,8 +192,8 @@ impl Track {
         is_legal(atlas.tri(self.tri), &self.left_out, &w.letters)
     }
 
-    /// The branches that a legal walk from a switch to a switch passes, in order, each by its number among `branches`,
-    /// whichever way it is passed.
+    /// The branches that a legal walk from a switch to a switch passes, in order, each by its
+    /// number among `branches`, whichever way it is passed.
     pub fn decompose(&self, alloc: Global, w: &Walk) -> Result<Vec<u32>, Memory>
         requires { CanBeCut self.now w.now }
         ensures { IfOk result (λ numbers. (passes : List Pass)

@@ -18,7 +18,8 @@ is_legal_pair triples left_out u v =
 -- a letter that u may be followed by: past an edge that is no switch the only one
 unfoldable pub continuation : List (List ℤ) → List ℤ → ℤ → ℤ
 continuation triples left_out u =
-    if is_left_out left_out (inverse u) then previous triples (inverse u) else next triples (inverse u)
+    if is_left_out left_out (inverse u) then previous triples (inverse u) else next triples
+    (inverse u)
 
 -- the branch with these first two letters
 unfoldable pub grow : List (List ℤ) → List ℤ → ℤ → ℤ → List ℤ
@@ -34,28 +35,33 @@ is_found triples left_out x y =
 
 -- whether there is one that is listed
 unfoldable pub is_listed : List (List ℤ) → List ℤ → ℤ → ℤ → Bool
-is_listed triples left_out x y = is_legal_pair triples left_out x y && not (is_found triples left_out x y)
+is_listed triples left_out x y =
+    is_legal_pair triples left_out x y && not (is_found triples left_out x y)
 
 -- the branches with these first two letters that are listed: one or none
 unfoldable pub listed : List (List ℤ) → List ℤ → ℤ → ℤ → List (List ℤ)
-listed triples left_out x y = if is_listed triples left_out x y then grow triples left_out x y ∷ [] else []
+listed triples left_out x y =
+    if is_listed triples left_out x y then grow triples left_out x y ∷ [] else []
 
 -- the sides of the triangle that x leads to, but for the one crossed, in the order of labels
 abbrev pub lesser_side : List (List ℤ) → ℤ → ℤ
 lesser_side triples x =
     let p : ℤ = inverse x in
-    if nat_lt (rank (previous triples p)) (rank (next triples p)) then previous triples p else next triples p
+    if nat_lt (rank (previous triples p)) (rank (next triples p)) then previous triples p else next
+    triples p
 
 abbrev pub greater_side : List (List ℤ) → ℤ → ℤ
 greater_side triples x =
     let p : ℤ = inverse x in
-    if nat_lt (rank (previous triples p)) (rank (next triples p)) then next triples p else previous triples p
+    if nat_lt (rank (previous triples p)) (rank (next triples p)) then next triples p else previous
+    triples p
 
 -- those with the first letter x
 unfoldable pub listed_from : List (List ℤ) → List ℤ → ℤ → List (List ℤ)
 listed_from triples left_out x =
     if is_switch triples left_out x then
-    listed triples left_out x (lesser_side triples x) ++ listed triples left_out x (greater_side triples x)
+    listed triples left_out x (lesser_side triples x) ++ listed triples left_out x
+    (greater_side triples x)
     else []
 
 -- all of them

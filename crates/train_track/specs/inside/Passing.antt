@@ -1,4 +1,5 @@
--- What cutting a walk into branches rests on: the first two letters of a pass settle all its letters.
+-- What cutting a walk into branches rests on: the first two letters of a pass settle all its
+-- letters.
 use Rattle.std.specs.Prelude.{◌≡◌, ◌<◌, ◌≤◌, ℕ, ℤ, Bool, List, length, if◌then◌else◌, All}
 use Rattle.ideal_tri.specs.Words.{inverse_word}
 use Rattle.train_track.specs.Branches.{letter_at}
@@ -22,7 +23,8 @@ BeginsSomeWay x y b = (forwards : Bool) × BeginsWith x y (directed b forwards)
 abbrev pub IsBeginning : List (List ℤ) → ℤ → ℤ → ℕ → Type 0
 IsBeginning branches x y k =
     (k < length branches)
-    × ((forwards : Bool) × BeginsWith x y (letters_of branches (record { branch = k; forwards = forwards })))
+    × ((forwards : Bool) × BeginsWith x y
+    (letters_of branches (record { branch = k; forwards = forwards })))
 
 -- the word can be cut into branches, and the first two letters of each tell which branch it is
 pub record CanBeCutInto (branches : List (List ℤ)) (w : List ℤ) : Type 0 where

@@ -7,6 +7,7 @@ use Rattle.train_track.proofs.branches.branches.Given as goal
 abbrev pub invariant-loop-k : goal.invariant-loop-k
 invariant-loop-k l = record {
   found :
-      l.found.items ≡ map (walk_of l.tri) (flat_map (listed_from l.tri l.left_out) (map label_of_rank (range_with_len 0 l.k)));
+      l.found.items
+      ≡ map (walk_of l.tri) (flat_map (listed_from l.tri l.left_out) (map label_of_rank (range_with_len 0 l.k)));
   few : length l.found.items ≤ 2 * l.k;
 }

@@ -8,4 +8,5 @@ use Rattle.train_track.proofs.corners.free_corners.Given as goal
 abbrev pub invariant-loop-k : goal.invariant-loop-k
 invariant-loop-k l =
     l.found.items
-    ≡ filter (λ x. corner_count (triangulation l.atlas l.w.tri) l.w.numbers x == 0) (map label_of_rank (range_with_len 0 l.k))
+    ≡ filter (λ x. corner_count (triangulation l.atlas l.w.tri) l.w.numbers x == 0)
+    (map label_of_rank (range_with_len 0 l.k))

@@ -1,4 +1,5 @@
-use Rattle.std.proofs.Common.{ℕ, ℤ, List, ◌≡◌, ◌<◌, ◌≤◌, sym, ◌∙◌, ap, subst, arith, length, get_or, [], inl, inr, false, true}
+use Rattle.std.proofs.Common.{ℕ, ℤ, List, ◌≡◌, ◌<◌, ◌≤◌, sym, ◌∙◌, ap, subst, arith, length, get_or, [], inl, inr}
+use Rattle.std.proofs.Common.{false, true}
 use Rattle.std.specs.Prelude.{IsTrue}
 use Rattle.std.proofs.lemmas.Bool.{cases_eq, true≢false}
 use Rattle.std.proofs.lemmas.List.{length-map}
@@ -16,7 +17,8 @@ begins_some_way-requires c =
     let word : c.deref.result.now ≡ get_or (words_of c.args.branches.now) c.loop-k.k [] =
     c.deref.ensures.value ∙ ap (λ (w : DualWalk). w.letters) c.branch.view_is
     ∙ word_at c.args.branches.now c.loop-k.k c.index-branches-k.result c.loop-k-test.true c.index-branches-k.is in
-    subst (λ (w : List ℤ). 2 ≤ length w) (sym word) (c.requires.long c.loop-k.k [] (omega (arith, as_many c.args.branches.now)))
+    subst (λ (w : List ℤ). 2 ≤ length w) (sym word)
+    (c.requires.long c.loop-k.k [] (omega (arith, as_many c.args.branches.now)))
 
 pub returns-then-begins_some_way : goal.returns-then-begins_some_way
 returns-then-begins_some_way c =

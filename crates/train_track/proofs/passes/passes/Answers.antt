@@ -1,4 +1,5 @@
-use Rattle.std.proofs.Common.{ℕ, ℤ, List, ◌≡◌, ◌<◌, ◌+◌, ◌-◌, sym, ◌∙◌, ap, subst, arith, length, get_or, [], ◌∷◌, ◌++◌, pos, rules}
+use Rattle.std.proofs.Common.{ℕ, ℤ, List, ◌≡◌, ◌<◌, ◌+◌, ◌-◌, sym, ◌∙◌, ap, subst, arith, length, get_or, [], ◌∷◌, ◌++◌}
+use Rattle.std.proofs.Common.{pos, rules}
 use Rattle.std.proofs.lemmas.List.{get_or_default, length-map}
 use Rattle.free_groupoid.specs.Walks.{DualWalk}
 use Rattle.train_track.specs.Branches.{letter_at, words_of}
@@ -8,7 +9,8 @@ use Rattle.train_track.proofs.passes.passes.Goals as goal
 
 pub loop-i-init : goal.loop-i-init
 loop-i-init c =
-    subst (λ (ns : List ℕ). IsCutUpTo (words_of c.args.branches.now) c.args.letters.now ns 0) (sym c.new-numbers.ensures.items)
+    subst (λ (ns : List ℕ). IsCutUpTo (words_of c.args.branches.now) c.args.letters.now ns 0)
+    (sym c.new-numbers.ensures.items)
     (cut_none (words_of c.args.branches.now) c.args.letters.now c.requires.cut)
 
 pub passed-k-requires-clause-some : goal.passed-k-requires-clause-some
@@ -19,7 +21,8 @@ passed-k-requires-clause-some c =
     subst (λ (x : ℤ). (k : ℕ) × IsBeginning bs x c.index-letters-i-in-loop-i.result k)
     (sym (c.index-letters-i.is ∙ get_or_default w c.loop-i.i c.index-letters-i.result (pos 0) (omega arith)))
     (subst (λ (y : ℤ). (k : ℕ) × IsBeginning bs (letter_at w c.loop-i.i) y k)
-    (sym (c.index-letters-i-in-loop-i.is ∙ get_or_default w (c.loop-i.i + 1) c.index-letters-i-in-loop-i.result (pos 0) more))
+    (sym (c.index-letters-i-in-loop-i.is ∙ get_or_default w (c.loop-i.i + 1) c.index-letters-i-in-loop-i.result (pos 0)
+    more))
     (some_begins bs w c.requires.cut c.loop-i.numbers.items c.loop-i.i c.loop-i.invariant more))
 
 pub loop-i-preserved : goal.loop-i-preserved
@@ -36,8 +39,10 @@ loop-i-preserved c =
     let within : c.passed-k.result < length c.args.branches.now =
     (let h = begins.0 in omega (arith, length-map c.args.branches.now (λ (w : DualWalk). w.letters))) in
     subst (λ (ns : List ℕ). IsCutUpTo bs w ns (c.loop-i.i + (c.length_of.result - 1))) (sym c.in_ok-push.ensures.items)
-    (cut_more bs w c.requires.cut c.loop-i.numbers.items c.loop-i.i c.passed-k.result c.length_of.result c.loop-i.invariant more begins
-    (sym (c.length_of.ensures ∙ ap length (word_at c.args.branches.now c.passed-k.result c.index-branches-k.result within c.index-branches-k.is))))
+    (cut_more bs w c.requires.cut c.loop-i.numbers.items c.loop-i.i c.passed-k.result c.length_of.result
+    c.loop-i.invariant more begins
+    (sym (c.length_of.ensures ∙ ap length
+    (word_at c.args.branches.now c.passed-k.result c.index-branches-k.result within c.index-branches-k.is))))
 
 pub overflow_add-i-in-loop-i-2 : goal.overflow_add-i-in-loop-i-2
 overflow_add-i-in-loop-i-2 c =
@@ -52,13 +57,17 @@ overflow_add-i-in-loop-i-2 c =
     c.passed-k.ensures) in
     let here : c.passed-k.result < length c.args.branches.now =
     (let h = begins.0 in omega (arith, length-map c.args.branches.now (λ (w : DualWalk). w.letters))) in
-    let next : IsCutUpTo bs w (c.loop-i.numbers.items ++ (c.passed-k.result ∷ [])) (c.loop-i.i + (c.length_of.result - 1)) =
-    cut_more bs w c.requires.cut c.loop-i.numbers.items c.loop-i.i c.passed-k.result c.length_of.result c.loop-i.invariant more begins
-    (sym (c.length_of.ensures ∙ ap length (word_at c.args.branches.now c.passed-k.result c.index-branches-k.result here c.index-branches-k.is))) in
+    let next : IsCutUpTo bs w (c.loop-i.numbers.items ++ (c.passed-k.result ∷ []))
+    (c.loop-i.i + (c.length_of.result - 1)) =
+    cut_more bs w c.requires.cut c.loop-i.numbers.items c.loop-i.i c.passed-k.result c.length_of.result
+    c.loop-i.invariant more begins
+    (sym (c.length_of.ensures ∙ ap length
+    (word_at c.args.branches.now c.passed-k.result c.index-branches-k.result here c.index-branches-k.is))) in
     let within : c.loop-i.i + (c.length_of.result - 1) < length w = next.within in
     omega arith
 
 pub returns : goal.returns
 returns c =
-    cut_all (words_of c.args.branches.now) c.args.letters.now c.requires.cut c.loop-i.numbers.items c.loop-i.i c.loop-i.invariant
+    cut_all (words_of c.args.branches.now) c.args.letters.now c.requires.cut c.loop-i.numbers.items c.loop-i.i
+    c.loop-i.invariant
     c.loop-i-test.false

@@ -15,9 +15,11 @@ passes-requires-clause-cut c =
 
 pub returns : goal.returns
 returns c =
-    subst (λ (bs : List DualWalk). IfOk c.passes.result (λ numbers. (ps : List Pass) × ArePassesOf (words_of bs) ps c.args.w.now.letters
+    subst (λ (bs : List DualWalk). IfOk c.passes.result
+    (λ numbers. (ps : List Pass) × ArePassesOf (words_of bs) ps c.args.w.now.letters
     × (numbers.items ≡ map (λ p. p.branch) ps)))
     (c.deref.ensures.value ∙ ap (λ (t : TrainTrack). t.branches) c.self.view_is)
-    (subst (λ (w : List ℤ). IfOk c.passes.result (λ numbers. (ps : List Pass) × ArePassesOf (words_of c.deref.result.now) ps w
+    (subst (λ (w : List ℤ). IfOk c.passes.result
+    (λ numbers. (ps : List Pass) × ArePassesOf (words_of c.deref.result.now) ps w
     × (numbers.items ≡ map (λ p. p.branch) ps)))
     (c.deref-2.ensures.value ∙ ap (λ (w : DualWalk). w.letters) c.w.view_is) c.passes.ensures)
