@@ -1,0 +1,4 @@
+-- What serves the private functions and the proofs alone: no public clause cites it.
+pub mod Corners
+pub mod Growing
+pub mod Passing
