@@ -30,7 +30,7 @@ pub lead_here : (arena : Arena) (s t : ℕ) (handles : List MoveHandle) (k : ℕ
     → IsMoveIn arena m × (source_of arena m ≡ s) × Lead arena (target_of arena m) (drop (k + 1) handles) t
 lead_here arena s t handles k m within is h =
     let split : drop k handles ≡ m ∷ drop (k + 1) handles =
-        drop_more handles k m within ∙ ap (λ (x : MoveHandle). x ∷ drop (k + 1) handles) (sym is) in
+    drop_more handles k m within ∙ ap (λ (x : MoveHandle). x ∷ drop (k + 1) handles) (sym is) in
     subst (λ (ms : List MoveHandle). Lead arena s ms t) split h
 
 pub lead_end : (arena : Arena) (s t : ℕ) (handles : List MoveHandle) (k : ℕ) → length handles ≤ k
@@ -78,12 +78,12 @@ pub fit_more : (arena : Arena) (handles : List MoveHandle) (w v : List ℕ) (k :
     → ¬ IsOver COORDINATE_LIMIT (step_of arena m) v → FitBefore (map (step_of arena) handles) w k
     → FitBefore (map (step_of arena) handles) w (k + 1)
 fit_more arena handles w v k m within is now fits before j low = elim (cases_eq j k) [
-      inl e ↦
-        subst (λ (i : ℕ). ¬ IsOver COORDINATE_LIMIT (move_at (map (step_of arena) handles) i)
-            (vector_along (take i (map (step_of arena) handles)) w)) (sym e)
-        (over_here arena handles w v k m within is now (λ move u. ¬ IsOver COORDINATE_LIMIT move u) fits)
-    | inr apart ↦ before j (omega arith)
-    ]
+  | inl e ↦
+      subst (λ (i : ℕ). ¬ IsOver COORDINATE_LIMIT (move_at (map (step_of arena) handles) i)
+      (vector_along (take i (map (step_of arena) handles)) w)) (sym e)
+      (over_here arena handles w v k m within is now (λ move u. ¬ IsOver COORDINATE_LIMIT move u) fits)
+  | inr apart ↦ before j (omega arith)
+]
 
 pub first_overflow : (arena : Arena) (handles : List MoveHandle) (w v : List ℕ) (k flip : ℕ) (m : MoveHandle) (o : Overflow)
     → k < length handles → m ≡ get_or handles k m → v ≡ vector_along (take k (map (step_of arena) handles)) w
@@ -92,8 +92,8 @@ pub first_overflow : (arena : Arena) (handles : List MoveHandle) (w v : List ℕ
     → IsFirstOverflow w (map (step_of arena) handles) (record { flip = flip; edge = o.edge; value = o.value })
 first_overflow arena handles w v k flip m o within is now refused before flips =
     let there : IsOverflowOf (move_at (map (step_of arena) handles) k)
-            (vector_along (take k (map (step_of arena) handles)) w) o =
-        over_here arena handles w v k m within is now (λ move u. IsOverflowOf move u o) refused in
+    (vector_along (take k (map (step_of arena) handles)) w) o =
+    over_here arena handles w v k m within is now (λ move u. IsOverflowOf move u o) refused in
     record {
       place = k;
       first = record {

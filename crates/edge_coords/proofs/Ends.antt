@@ -22,7 +22,7 @@ module _ (triples : List (List ℤ)) (w : List ℕ) (triangles : TriangleLaws tr
       let side : weight w x ≡ corner_count triples w x + corner_count triples w (previous triples x) = drawings.corners w x m l in
       let head : least_count triples w x ≤ corner_count triples w x = least_here x l in
       let tail : least_count triples w (previous triples x) ≤ corner_count triples w (previous triples x) =
-          least_here (previous triples x) behind in
+      least_here (previous triples x) behind in
       let one : least_count triples w (previous triples x) ≡ least_count triples w (inverse x) =
-          corners.same w (previous triples x) (inverse x) behind (corners.tail x l) in
+      corners.same w (previous triples x) (inverse x) behind (corners.tail x l) in
       omega arith

@@ -41,16 +41,16 @@ module _ (triples : List (List ℤ)) (w : List ℕ) (corners : CornerLaws triple
   least_corners_ordered : (x y : ℤ) → IsLabel triples x → IsLabel triples y → vertex_of triples y < vertex_of triples x
       → rank (least_corner triples y) ≤ rank (least_corner triples x)
   least_corners_ordered x y l m low = elim (cases_lt (rank (least_corner triples x)) (rank (least_corner triples y))) [
-        inl less ↦ (let above : vertex_of triples x < vertex_of triples y = vertices.ordered x y l m less in absurd (omega arith))
-      | inr h ↦ h
-      ]
+    | inl less ↦ (let above : vertex_of triples x < vertex_of triples y = vertices.ordered x y l m less in absurd (omega arith))
+    | inr h ↦ h
+  ]
 
   positive : (v : ℕ) → (h : IsPeripheralAt triples w v) → 0 < least_count triples w (least_corner triples h.corner)
   positive v h =
       let (z, there, least) = corners.there w h.corner h.label in
       let strands : 0 < corner_count triples w z = h.all z there in
       let one : least_count triples w h.corner ≡ least_count triples w (least_corner triples h.corner) =
-          corners.same w h.corner (least_corner triples h.corner) h.label (vertices.there h.corner h.label) in
+      corners.same w h.corner (least_corner triples h.corner) h.label (vertices.there h.corner h.label) in
       omega arith
 
   -- it is that of the first label at whose vertex all corners have strands
@@ -66,13 +66,13 @@ module _ (triples : List (List ℤ)) (w : List ℕ) (corners : CornerLaws triple
     };
     before = λ u low h.
         (let order : rank (least_corner triples h.corner) ≤ rank (least_corner triples x) =
-            least_corners_ordered x h.corner l h.label (subst (λ (v : ℕ). v < vertex_of triples x) (sym h.vertex) low) in
+        least_corners_ordered x h.corner l h.label (subst (λ (v : ℕ). v < vertex_of triples x) (sym h.vertex) low) in
         let least : rank (least_corner triples x) ≤ rank x = vertices.least x x l (record { steps = 0; reached = refl }) in
         let other : least_corner triples h.corner ≢ x = λ e.
-            (let one : vertex_of triples x ≡ u = ap (vertex_of triples) (sym e) ∙ sym (vertex_of-least_corner h.corner h.label) ∙ h.vertex in
-            omega arith) in
+        (let one : vertex_of triples x ≡ u = ap (vertex_of triples) (sym e) ∙ sym (vertex_of-least_corner h.corner h.label) ∙ h.vertex in
+        omega arith) in
         let none : least_count triples w (least_corner triples h.corner) ≡ 0 =
-            first (least_corner triples h.corner) (least_label h.corner h.label) other (omega arith) in
+        first (least_corner triples h.corner) (least_label h.corner h.label) other (omega arith) in
         let some : 0 < least_count triples w (least_corner triples h.corner) = positive u h in
         omega arith);
   }

@@ -29,14 +29,14 @@ pub moved_more : (images : List ℤ) (v before numbers : List ℕ) (count k n i 
 moved_more images v before numbers count k n i few place within is h = record {
   room = length-set numbers i n ∙ h.room;
   placed = λ j low. elim (cases_eq (place_of images j) i) [
-        inl e ↦
-          ap (λ (x : ℕ). get_or (set numbers i n) x 0) e
-          ∙ get_or-set_same numbers i n 0 (subst (λ (m : ℕ). i < m) (sym h.room) (omega arith))
-          ∙ is ∙ ap (λ (x : ℕ). get_or v x 0) (sym place ∙ sym e)
-      | inr apart ↦
-          (let other : j ≢ k = λ e. apart (ap (place_of images) e ∙ sym place) in
-          get_or-set_other numbers i (place_of images j) n 0 apart ∙ h.placed j (omega arith))
-      ];
+    | inl e ↦
+        ap (λ (x : ℕ). get_or (set numbers i n) x 0) e
+        ∙ get_or-set_same numbers i n 0 (subst (λ (m : ℕ). i < m) (sym h.room) (omega arith))
+        ∙ is ∙ ap (λ (x : ℕ). get_or v x 0) (sym place ∙ sym e)
+    | inr apart ↦
+        (let other : j ≢ k = λ e. apart (ap (place_of images) e ∙ sym place) in
+        get_or-set_other numbers i (place_of images j) n 0 apart ∙ h.placed j (omega arith))
+  ];
   rest = drop-set-lt count numbers i n within ∙ h.rest;
 }
 
@@ -64,8 +64,8 @@ module _ (images : List ℤ) (before numbers : List ℕ) (count k : ℕ) (few : 
   moved_all =
       ext_get_or 0 (take count numbers) v (long ∙ sym many ∙ sym step.as_long)
       (λ e low.
-          let within : e < count = subst (λ (n : ℕ). e < n) long low in
-          get_or-take count numbers e 0 within ∙ all_placed e within)
+      let within : e < count = subst (λ (n : ℕ). e < n) long low in
+      get_or-take count numbers e 0 within ∙ all_placed e within)
 
   -- each of its numbers is one of those before
   pub small_moved : AreSmall (take count before) → AreSmall (take count numbers)
@@ -74,7 +74,7 @@ module _ (images : List ℤ) (before numbers : List ℕ) (count k : ℕ) (few : 
       subst AreSmall (sym moved_all)
       (All-from_get_or (λ (n : ℕ). n < COORDINATE_LIMIT) v 0
       (λ e low.
-          let (j, within, is) = step.onto e (subst (λ (n : ℕ). e < n) step.as_long low) in
-          subst (λ (n : ℕ). n < COORDINATE_LIMIT)
-          (sym (step.moved j within) ∙ ap (λ (x : ℕ). get_or v x 0) is)
-          (small j 0 within)))
+      let (j, within, is) = step.onto e (subst (λ (n : ℕ). e < n) step.as_long low) in
+      subst (λ (n : ℕ). n < COORDINATE_LIMIT)
+      (sym (step.moved j within) ∙ ap (λ (x : ℕ). get_or v x 0) is)
+      (small j 0 within)))

@@ -12,11 +12,11 @@ PassBefore P ts t = (s : ℕ) → s < t → P (slice_index_or ts s [])
 pub pass_next : (P : List ℤ → Type 0) (ts : List (List ℤ)) (triple : List ℤ) (t : ℕ) → slice_get ts t ≡ Some triple
     → PassBefore P ts t → P triple → PassBefore P ts (t + 1)
 pass_next P ts triple t is before here s low = elim (cases_eq s t) [
-      inl e ↦
-        let Q : ℕ → Type 0 = λ r. P (slice_index_or ts r []) in
-        subst Q (sym e) (subst P (sym (get_or_from_slice_get ts t triple [] is)) here)
-    | inr apart ↦ before s (omega arith)
-    ]
+  | inl e ↦
+      let Q : ℕ → Type 0 = λ r. P (slice_index_or ts r []) in
+      subst Q (sym e) (subst P (sym (get_or_from_slice_get ts t triple [] is)) here)
+  | inr apart ↦ before s (omega arith)
+]
 
 pub least_failing : (P : List ℤ → Type 0) (ts : List (List ℤ)) (triple : List ℤ) (t : ℕ) → t < length ts
     → slice_get ts t ≡ Some triple → PassBefore P ts t → ¬ P triple → IsLeastFailing ts P t

@@ -34,7 +34,7 @@ module _ (triples : List (List ℤ)) (w : List ℕ) (x : ℤ) where
         (let n : ℕ = 2 * edge_count triples - (i + 1) in
         let left : 2 * edge_count triples - i ≡ suc n = omega arith in
         let rest : least_count_within triples w n (corner_step triples corner) ≡ least_count_within triples w n next =
-            ap (least_count_within triples w n) (sym turned) in
+        ap (least_count_within triples w n) (sym turned) in
         let others : least_count_within triples w n next ≤ corner_count triples w next = least_count-le triples w n next in
         h.to_come ∙ ap (λ (m : ℕ). min least (least_count_within triples w m corner)) left ∙ omega (arith, h.passed));
   }
@@ -44,5 +44,5 @@ module _ (triples : List (List ℤ)) (w : List ℕ) (x : ℤ) where
   least_all corner least i past h =
       let left : 2 * edge_count triples - i ≡ 0 = omega arith in
       let rest : least_count_within triples w (2 * edge_count triples - i) corner ≡ corner_count triples w corner =
-          ap (λ (n : ℕ). least_count_within triples w n corner) left in
+      ap (λ (n : ℕ). least_count_within triples w n corner) left in
       omega (arith, h.passed, h.to_come)

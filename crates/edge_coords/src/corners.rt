@@ -46,13 +46,13 @@ impl Coords {
     pub fn strip_peripheral(&mut self, atlas: &Atlas)
         requires { AreCoordinatesIn atlas.now self.old }
         ensures stripped { self.new ≡ record {
-            tri = self.old.tri;
-            numbers = stripped (triangulation atlas.now self.old.tri) self.old.numbers;
+          tri = self.old.tri;
+          numbers = stripped (triangulation atlas.now self.old.tri) self.old.numbers;
         } }
         ensures here { AreCoordinatesIn atlas.now self.new }
         ensures corners { (x : ℤ) → IsLabel (triangulation atlas.now self.old.tri) x
             → corner_count (triangulation atlas.now self.old.tri) self.new.numbers x
-                + least_count (triangulation atlas.now self.old.tri) self.old.numbers x
+            + least_count (triangulation atlas.now self.old.tri) self.old.numbers x
             ≡ corner_count (triangulation atlas.now self.old.tri) self.old.numbers x }
         ensures free { HasFreeCorners (triangulation atlas.now self.old.tri) self.new.numbers }
     {

@@ -99,7 +99,7 @@ impl Coords {
         ensures moved { IfOk result (λ c. c ≡ moved_along atlas.now p.now self.now) }
         ensures fits { OnOk result ((k : ℕ) → k < length (moves_of atlas.now p.now)
             → ¬ IsOver COORDINATE_LIMIT (move_at (moves_of atlas.now p.now) k)
-                (vector_along (take k (moves_of atlas.now p.now)) self.now.numbers)) }
+            (vector_along (take k (moves_of atlas.now p.now)) self.now.numbers)) }
         ensures refused { IfErr result
             (IsFirstOverflow self.now.numbers (moves_of atlas.now p.now)) }
         ensures here { IfOk result (AreCoordinatesIn atlas.now) }
@@ -123,8 +123,8 @@ impl Coords {
     fn step(&mut self, step: &Step) -> Result<(), Overflow>
         requires { IsStepOf self.old.numbers (move_of (length self.old.numbers) step.now) }
         ensures moved { OnOk result (self.new ≡ record {
-            tri = self.old.tri;
-            numbers = vector_after (move_of (length self.old.numbers) step.now) self.old.numbers;
+          tri = self.old.tri;
+          numbers = vector_after (move_of (length self.old.numbers) step.now) self.old.numbers;
         }) }
         ensures fits { OnOk result (¬ IsOver COORDINATE_LIMIT
             (move_of (length self.old.numbers) step.now) self.old.numbers) }
@@ -144,19 +144,12 @@ impl Coords {
     }
 
     /// Gives the edge of a flip with these sides its new number.
-    fn flip(
-        &mut self,
-        e: Label,
-        a: Label,
-        b: Label,
-        c: Label,
-        d: Label,
-    ) -> Result<(), Overflow>
+    fn flip(&mut self, e: Label, a: Label, b: Label, c: Label, d: Label) -> Result<(), Overflow>
         requires { IsFlipOf self.old.numbers e a b c d }
         ensures flipped { OnOk result (self.new ≡ record {
-            tri = self.old.tri;
-            numbers = slice_set self.old.numbers (edge_of e)
-                (flipped_number self.old.numbers e a b c d);
+          tri = self.old.tri;
+          numbers = slice_set self.old.numbers (edge_of e)
+              (flipped_number self.old.numbers e a b c d);
         }) }
         ensures fits { OnOk result
             (flipped_number self.old.numbers e a b c d < COORDINATE_LIMIT) }
@@ -229,7 +222,7 @@ fn next_law(atlas: &Atlas, p: &Path, w: &Coords)
     ensures { (k : ℕ) → k < length (moves_of atlas.now p.now)
         → vector_along (take (suc k) (moves_of atlas.now p.now)) w.now.numbers
         ≡ vector_after (move_at (moves_of atlas.now p.now) k)
-            (vector_along (take k (moves_of atlas.now p.now)) w.now.numbers) }
+        (vector_along (take k (moves_of atlas.now p.now)) w.now.numbers) }
 {
     vector_laws();
 }

@@ -23,8 +23,8 @@ impl Coords {
         requires same { other.now.tri ≡ self.old.tri }
         requires as_many { length other.now.numbers ≡ length self.old.numbers }
         ensures added { OnOk result (self.new ≡ record {
-            tri = self.old.tri;
-            numbers = sums self.old.numbers other.now.numbers;
+          tri = self.old.tri;
+          numbers = sums self.old.numbers other.now.numbers;
         }) }
         ensures fits { OnOk result (AreSmall (sums self.old.numbers other.now.numbers)) }
         ensures refused { IfErr result (IsLeastOver self.old.numbers other.now.numbers) }
@@ -46,8 +46,8 @@ impl Coords {
         requires other { AreCoordinatesIn atlas.now other.now }
         requires same { other.now.tri ≡ self.old.tri }
         ensures taken { OnOk result (self.new ≡ record {
-            tri = self.old.tri;
-            numbers = differences self.old.numbers other.now.numbers;
+          tri = self.old.tri;
+          numbers = differences self.old.numbers other.now.numbers;
         }) }
         ensures part { OnOk result (IsPartOf (triangulation atlas.now self.old.tri)
             other.now.numbers self.old.numbers) }

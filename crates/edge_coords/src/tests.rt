@@ -14,7 +14,9 @@ use std::test::Fail;
 use tri_atlas::{Atlas, MoveId, Path, Step};
 
 const TORUS: [[i32; 3]; 2] = [[0, 1, 2], [-1, -2, -3]];
+
 const SPHERE: [[i32; 3]; 2] = [[0, 1, 2], [-1, -3, -2]];
+
 const FOLDED: [[i32; 3]; 2] = [[0, -1, 1], [-2, 2, -3]];
 
 /// The number at an edge of three.
@@ -25,7 +27,11 @@ fn number(w: &[u128; 3], x: Label) -> u128 {
 
 /// The side after `x` in its triangle.
 fn next(tri: &Tri, x: Label) -> Label {
-    if x.edge() < tri.edges() { tri.next(x) } else { x }
+    if x.edge() < tri.edges() {
+        tri.next(x)
+    } else {
+        x
+    }
 }
 
 /// Where the strand leaves a triangle that enters it through the side `x` at place `i`.
@@ -167,7 +173,10 @@ fn agree(rt: &(impl Abort + AllocGlobal), atlas: &Atlas, m: MoveId) -> Result<()
         if let Ok(coords) = Coords::new(atlas, start, &w) {
             let mut moved = coords;
             moved.apply_move(atlas, m)?;
-            assert_eq!(rt; moved.values(), images(rt.alloc(), tri, &w, &step)?.as_slice());
+            assert_eq!(rt;
+                moved.values(),
+                images(rt.alloc(), tri, &w, &step)?.as_slice()
+            );
             moved.apply_move(atlas, atlas.back(m))?;
             assert_eq!(rt; moved, coords);
         }

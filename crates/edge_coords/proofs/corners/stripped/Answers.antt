@@ -17,7 +17,7 @@ rounded_at : (triples : List (List ℤ)) (w : List ℕ) (e r : ℕ) (x : ℤ) �
 unfolding left_at
 rounded_at triples w e r x label is =
     let here : r ≡ least_count triples w (pos e) + least_count triples w (negsuc e) =
-        is ∙ ap (λ (y : ℤ). least_count triples w y + least_count triples w (inverse y)) label in
+    is ∙ ap (λ (y : ℤ). least_count triples w y + least_count triples w (inverse y)) label in
     omega arith
 
 pub loop-e-preserved : goal.loop-e-preserved
@@ -39,9 +39,9 @@ unfolding left_at
 returns-clause-small c =
     small_values (left_at c.args.tri.now c.args.w.now) (edge_count c.args.tri.now)
     (λ k h.
-        let many : length c.args.w.now ≡ edge_count c.args.tri.now = c.requires.multicurve.one_per_edge in
-        let low : slice_index c.args.w.now k < COORDINATE_LIMIT = c.requires.small k 0 (omega arith) in
-        omega arith)
+    let many : length c.args.w.now ≡ edge_count c.args.tri.now = c.requires.multicurve.one_per_edge in
+    let low : slice_index c.args.w.now k < COORDINATE_LIMIT = c.requires.small k 0 (omega arith) in
+    omega arith)
 
 pub returns-clause-free : goal.returns-clause-free
 returns-clause-free c =

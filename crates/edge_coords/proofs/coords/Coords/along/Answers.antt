@@ -16,7 +16,7 @@ flips-requires c =
 pub returns-in-Err-clause-refused : goal.returns-in-Err-clause-refused
 returns-in-Err-clause-refused c =
     subst (λ (hs : List MoveHandle). IsFirstOverflow c.args.self.now.numbers (map (step_of c.args.atlas.now) hs)
-        (record { flip = c.flips.result; edge = c.in-Err.overflow.edge; value = c.in-Err.overflow.value }))
+    (record { flip = c.flips.result; edge = c.in-Err.overflow.edge; value = c.in-Err.overflow.value }))
     c.moves-moves.ensures
     (first_overflow c.args.atlas.now c.moves-moves.result.now c.args.self.now.numbers c.loop-k.moved.numbers c.loop-k.k
     c.flips.result c.index-moves-k.result c.in-Err.overflow c.loop-k-test.true c.index-moves-k.is c.loop-k.invariant.numbers
@@ -28,12 +28,12 @@ loop-k-preserved c =
     let handles : List MoveHandle = c.moves-moves.result.now in
     let m : MoveHandle = c.index-moves-k.result in
     let lead : IsMoveIn arena m × (source_of arena m ≡ c.loop-k.moved.tri)
-            × Lead arena (target_of arena m) (drop (c.loop-k.k + 1) handles) c.args.p.now.end =
-        lead_here arena c.loop-k.moved.tri c.args.p.now.end handles c.loop-k.k m c.loop-k-test.true c.index-moves-k.is
-        c.loop-k.invariant.lead in
+    × Lead arena (target_of arena m) (drop (c.loop-k.k + 1) handles) c.args.p.now.end =
+    lead_here arena c.loop-k.moved.tri c.args.p.now.end handles c.loop-k.k m c.loop-k-test.true c.index-moves-k.is
+    c.loop-k.invariant.lead in
     let next : GoOn (map (step_of arena) handles) c.args.self.now.numbers =
-        subst (λ (hs : List MoveHandle). GoOn (map (step_of arena) hs) c.args.self.now.numbers) (sym c.moves-moves.ensures)
-        c.next_law.ensures in
+    subst (λ (hs : List MoveHandle). GoOn (map (step_of arena) hs) c.args.self.now.numbers) (sym c.moves-moves.ensures)
+    c.next_law.ensures in
     record {
       numbers =
           ap (λ (d : Coordinates). d.numbers) c.in_default.ensures.moved
