@@ -1,6 +1,8 @@
--- Along the moves of a path: each starts where the one before ended, so that the numbers after the first k + 1 moves are
--- those after one more move, and the first move that cannot be made is the first flip whose new number is too large.
-use Rattle.std.proofs.Common.{◌≡◌, ◌<◌, ◌≤◌, ◌+◌, ◌⊎◌, inl, inr, ℕ, suc, ℤ, List, [], ◌∷◌, ◌++◌, length, map, take, drop, get_or, count_by, All, refl, sym, ◌∙◌, ap, subst, arith, add-one}
+-- Along the moves of a path: each starts where the one before ended, so that the numbers after the first k + 1 moves
+-- are those after one more move, and the first move that cannot be made is the first flip whose new number is too
+-- large.
+use Rattle.std.proofs.Common.{◌≡◌, ◌<◌, ◌≤◌, ◌+◌, ◌⊎◌, inl, inr, ℕ, suc, ℤ, List, [], ◌∷◌, ◌++◌, length, map, take}
+use Rattle.std.proofs.Common.{drop, get_or, count_by, All, refl, sym, ◌∙◌, ap, subst, arith, add-one}
 use Rattle.std.proofs.lemmas.Bool.{cases_eq}
 use Rattle.std.proofs.lemmas.List.{take_more, drop_more, drop_all, get_or-map, get_or_read, length-map, take-map}
 use Rattle.std.proofs.lemmas.List.Elements.{All-nil, All-cons, All-append}
@@ -17,12 +19,14 @@ use Rattle.edge_coords.specs.declared.moves.OverflowAt.{OverflowAt}
 -- ---- the moves
 
 -- the first k + 1 moves are of the arena where the first k and the next one are
-pub here_more : (arena : Arena) (handles : List MoveHandle) (k : ℕ) (m : MoveHandle) → k < length handles → m ≡ get_or handles k m
+pub here_more : (arena : Arena) (handles : List MoveHandle) (k : ℕ) (m : MoveHandle) → k < length handles
+    → m ≡ get_or handles k m
     → IsMoveIn arena m → All (IsMoveIn arena) (take k handles) → All (IsMoveIn arena) (take (k + 1) handles)
 here_more arena handles k m within is here before =
     subst (All (IsMoveIn arena))
     (sym (take_more handles k m within ∙ ap (λ (x : MoveHandle). take k handles ++ x ∷ []) (sym is)))
-    (All-append (IsMoveIn arena) (take k handles) (m ∷ []) before (All-cons (IsMoveIn arena) m [] here (All-nil (IsMoveIn arena))))
+    (All-append (IsMoveIn arena) (take k handles) (m ∷ []) before (All-cons (IsMoveIn arena) m [] here (All-nil
+    (IsMoveIn arena))))
 
 -- the moves from place k on begin with m
 pub lead_here : (arena : Arena) (s t : ℕ) (handles : List MoveHandle) (k : ℕ) (m : MoveHandle) → k < length handles
@@ -37,9 +41,11 @@ pub lead_end : (arena : Arena) (s t : ℕ) (handles : List MoveHandle) (k : ℕ)
     → Lead arena s (drop k handles) t → s ≡ t
 lead_end arena s t handles k past h = subst (λ (ms : List MoveHandle). Lead arena s ms t) (drop_all k handles past) h
 
-move_here : (arena : Arena) (handles : List MoveHandle) (k : ℕ) (m : MoveHandle) → k < length handles → m ≡ get_or handles k m
+move_here : (arena : Arena) (handles : List MoveHandle) (k : ℕ) (m : MoveHandle) → k < length handles
+    → m ≡ get_or handles k m
     → move_at (map (step_of arena) handles) k ≡ step_of arena m
-move_here arena handles k m within is = get_or-map (step_of arena) handles k m (relabel []) within ∙ ap (step_of arena) (sym is)
+move_here arena handles k m within is = get_or-map (step_of arena) handles k m (relabel []) within
+    ∙ ap (step_of arena) (sym is)
 
 -- ---- the numbers
 
@@ -55,7 +61,8 @@ pub numbers_more : (arena : Arena) (handles : List MoveHandle) (w v : List ℕ) 
 numbers_more arena handles w v k m next within is now =
     let moves : List Move = map (step_of arena) handles in
     ap (vector_after (step_of arena m)) now
-    ∙ ap (λ (move : Move). vector_after move (vector_along (take k moves) w)) (sym (move_here arena handles k m within is))
+    ∙ ap (λ (move : Move). vector_after move (vector_along (take k moves) w)) (sym (move_here arena handles k m within
+    is))
     ∙ sym (next k (subst (λ (n : ℕ). k < n) (sym (length-map handles (step_of arena))) within))
     ∙ ap (λ (n : ℕ). vector_along (take n moves) w) (sym (add-one k))
 
@@ -85,7 +92,8 @@ fit_more arena handles w v k m within is now fits before j low = elim (cases_eq 
   | inr apart ↦ before j (omega arith)
 ]
 
-pub first_overflow : (arena : Arena) (handles : List MoveHandle) (w v : List ℕ) (k flip : ℕ) (m : MoveHandle) (o : Overflow)
+pub first_overflow : (arena : Arena) (handles : List MoveHandle) (w v : List ℕ) (k flip : ℕ) (m : MoveHandle) (o :
+    Overflow)
     → k < length handles → m ≡ get_or handles k m → v ≡ vector_along (take k (map (step_of arena) handles)) w
     → IsOverflowOf (step_of arena m) v o → FitBefore (map (step_of arena) handles) w k
     → flip ≡ count_by is_flip (map (step_of arena) (take (k + 1) handles))

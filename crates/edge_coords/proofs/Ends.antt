@@ -19,7 +19,8 @@ module _ (triples : List (List ℤ)) (w : List ℕ) (triangles : TriangleLaws tr
       → least_count triples w x + least_count triples w (inverse x) ≤ weight w x
   ends_within x m l =
       let behind : IsLabel triples (previous triples x) = triangles.label (next triples x) (triangles.label x l) in
-      let side : weight w x ≡ corner_count triples w x + corner_count triples w (previous triples x) = drawings.corners w x m l in
+      let side : weight w x ≡ corner_count triples w x + corner_count triples w (previous triples x) = drawings.corners
+      w x m l in
       let head : least_count triples w x ≤ corner_count triples w x = least_here x l in
       let tail : least_count triples w (previous triples x) ≤ corner_count triples w (previous triples x) =
       least_here (previous triples x) behind in

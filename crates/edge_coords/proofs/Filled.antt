@@ -1,5 +1,6 @@
 -- An array that was filled place by place with the values of a function.
-use Rattle.std.proofs.Common.{◌≡◌, ◌+◌, ◌<◌, ◌≤◌, ℕ, List, length, take, replicate, get_or, set, map, refl, sym, ◌∙◌, subst, arith}
+use Rattle.std.proofs.Common.{◌≡◌, ◌+◌, ◌<◌, ◌≤◌, ℕ, List, length, take, replicate, get_or, set, map, refl, sym, ◌∙◌}
+use Rattle.std.proofs.Common.{subst, arith}
 use Rattle.std.specs.List.{range_with_len}
 use Rattle.std.proofs.lemmas.List.{length-set, get_or-take, length-take-le}
 use Rattle.std.proofs.lemmas.List.Edits.{fill_by_more}
@@ -34,4 +35,5 @@ pub small_values : (f : ℕ → ℕ) (n : ℕ) → ((k : ℕ) → k < n → f k 
     → AreSmall (map f (range_with_len 0 n))
 small_values f n low k d within =
     let below : k < n = omega (arith, length-map-range_with_len f 0 n) in
-    subst (λ (v : ℕ). v < COORDINATE_LIMIT) (sym (get_or-map-range_with_len f 0 n k k d below (omega arith))) (low k below)
+    subst (λ (v : ℕ). v < COORDINATE_LIMIT) (sym (get_or-map-range_with_len f 0 n k k d below (omega arith))) (low k
+    below)

@@ -34,14 +34,16 @@ module _ (triples : List (List ℤ)) (w : List ℕ) (corners : CornerLaws triple
       edge_within x (least_corner triples x) (edge_count triples)
       (vertices.least x x l (record { steps = 0; reached = refl })) l
 
-  vertex_of-least_corner : (x : ℤ) → IsLabel triples x → vertex_of triples x ≡ vertex_of triples (least_corner triples x)
+  vertex_of-least_corner : (x : ℤ) → IsLabel triples x → vertex_of triples x
+      ≡ vertex_of triples (least_corner triples x)
   vertex_of-least_corner x l = (vertices.same x (least_corner triples x) l (least_label x l)).1 (vertices.there x l)
 
   -- vertices in the order of their least corners
   least_corners_ordered : (x y : ℤ) → IsLabel triples x → IsLabel triples y → vertex_of triples y < vertex_of triples x
       → rank (least_corner triples y) ≤ rank (least_corner triples x)
   least_corners_ordered x y l m low = elim (cases_lt (rank (least_corner triples x)) (rank (least_corner triples y))) [
-    | inl less ↦ (let above : vertex_of triples x < vertex_of triples y = vertices.ordered x y l m less in absurd (omega arith))
+    | inl less ↦ (let above : vertex_of triples x < vertex_of triples y = vertices.ordered x y l m less in absurd
+        (omega arith))
     | inr h ↦ h
   ]
 
@@ -62,14 +64,19 @@ module _ (triples : List (List ℤ)) (w : List ℕ) (corners : CornerLaws triple
       corner = x;
       label = l;
       vertex = refl;
-      all = λ y same. (let least : least_count triples w x ≤ corner_count triples w y = corners.least w x y l same in omega arith);
+      all = λ y same. (let least : least_count triples w x ≤ corner_count triples w y = corners.least w x y l same in
+          omega arith);
     };
     before = λ u low h.
         (let order : rank (least_corner triples h.corner) ≤ rank (least_corner triples x) =
         least_corners_ordered x h.corner l h.label (subst (λ (v : ℕ). v < vertex_of triples x) (sym h.vertex) low) in
-        let least : rank (least_corner triples x) ≤ rank x = vertices.least x x l (record { steps = 0; reached = refl }) in
+        let least : rank (least_corner triples x) ≤ rank x = vertices.least x x l (record {
+          steps = 0;
+          reached = refl;
+        }) in
         let other : least_corner triples h.corner ≢ x = λ e.
-        (let one : vertex_of triples x ≡ u = ap (vertex_of triples) (sym e) ∙ sym (vertex_of-least_corner h.corner h.label) ∙ h.vertex in
+        (let one : vertex_of triples x ≡ u = ap (vertex_of triples) (sym e)
+        ∙ sym (vertex_of-least_corner h.corner h.label) ∙ h.vertex in
         omega arith) in
         let none : least_count triples w (least_corner triples h.corner) ≡ 0 =
         first (least_corner triples h.corner) (least_label h.corner h.label) other (omega arith) in

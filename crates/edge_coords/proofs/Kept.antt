@@ -1,5 +1,6 @@
 -- Numbers in an array with zeros after them: kept whole, and one written over.
-use Rattle.std.proofs.Common.{◌≡◌, ◌<◌, ◌≤◌, ◌+◌, ◌-◌, ◌++◌, ◌^◌, ℕ, List, length, take, drop, set, replicate, All, sym, ◌∙◌, ap, subst, arith, length-append, length-drop}
+use Rattle.std.proofs.Common.{◌≡◌, ◌<◌, ◌≤◌, ◌+◌, ◌-◌, ◌++◌, ◌^◌, ℕ, List, length, take, drop, set, replicate, All, sym}
+use Rattle.std.proofs.Common.{◌∙◌, ap, subst, arith, length-append, length-drop}
 use Rattle.std.proofs.lemmas.List.Elements.{All-set}
 use Rattle.std.proofs.lemmas.List.{drop-replicate, length-replicate, length-set, drop-set-lt}
 use Rattle.std.proofs.Math.Seq.{take-append_seam, drop-append_seam, take-set-lt}
@@ -14,7 +15,13 @@ pub laid_out : (xs : List ℕ) → length xs ≤ EDGES → AreSmall xs
 unfolding spare_numbers
 laid_out xs few small = record {
   fits = few;
-  room = omega (arith, length-append xs (drop (length xs) (replicate EDGES 0)), length-drop {A = ℕ}, length-replicate {A = ℕ} EDGES 0);
+  room = omega (
+    arith,
+    length-append xs (drop (length xs) (replicate EDGES 0)),
+    length-drop {A = ℕ},
+    length-replicate
+        {A = ℕ} EDGES 0,
+  );
   spare = drop-append_seam xs _ ∙ drop-replicate (length xs) EDGES 0;
   small = let P : List ℕ → Type 0 = λ ys. AreSmall ys in subst P (sym (take-append_seam xs _)) small;
 }
@@ -26,7 +33,8 @@ laid_out_set count numbers i v h within low = record {
   fits = h.fits;
   room = length-set numbers i v ∙ h.room;
   spare = drop-set-lt count numbers i v within ∙ h.spare;
-  small = subst AreSmall (sym (take-set-lt count numbers i v within)) (All-set (λ n. n < COORDINATE_LIMIT) (take count numbers) i v low h.small);
+  small = subst AreSmall (sym (take-set-lt count numbers i v within)) (All-set (λ n. n < COORDINATE_LIMIT) (take count
+      numbers) i v low h.small);
 }
 
 -- ---- what contracts see
@@ -40,7 +48,8 @@ seen_same s t u v p q = ap (λ (n : ℕ). coordinates n u) p ∙ ap (coordinates
 pub place_within : (c : Coordinates) (t count : ℕ) (numbers : List ℕ) (i j : ℕ) → coordinates t (take count numbers) ≡ c
     → IsLaidOut count numbers → i ≡ j → j < length c.numbers → i < count
 place_within c t count numbers i j is h place within =
-    let seen : length c.numbers ≡ count = ap (λ (d : Coordinates). length d.numbers) (sym is) ∙ count_again count numbers h in
+    let seen : length c.numbers ≡ count = ap (λ (d : Coordinates). length d.numbers) (sym is)
+    ∙ count_again count numbers h in
     omega arith
 
 pub seen_set : (c : Coordinates) (t count : ℕ) (numbers : List ℕ) (i j u v : ℕ) → coordinates t (take count numbers) ≡ c

@@ -1,5 +1,5 @@
--- The step that the numbers take across a move: its labels are of edges of the vector, and the number of the flipped edge
--- can be taken from the greater sum.
+-- The step that the numbers take across a move: its labels are of edges of the vector, and the number of the flipped
+-- edge can be taken from the greater sum.
 use Rattle.std.proofs.Common.{◌≡◌, ◌<◌, ℕ, ℤ, pos, List, length, sym, ◌∙◌, subst}
 use Rattle.ideal_tri.specs.Labels.{inverse, edge_of}
 use Rattle.ideal_tri.specs.Triangulations.{IsTriangulation, IsLabel, edge_count, next, previous}
@@ -20,7 +20,8 @@ record AreSides (triples : List (List ℤ)) (e a b c d : ℤ) : Type 0 where
   at_c : IsLabel triples c
   at_d : IsLabel triples d
 
-sides : (before target : List (List ℤ)) (e a b c d : ℤ) → LabelLaws → TriangleLaws before → IsFlip before target e a b c d
+sides : (before target : List (List ℤ)) (e a b c d : ℤ) → LabelLaws → TriangleLaws before
+    → IsFlip before target e a b c d
     → AreSides before e a b c d
 sides before target e a b c d labels triangles h =
     let there : IsLabel before (next before e) = triangles.label e h.label in
@@ -39,7 +40,8 @@ in_vector : (triples : List (List ℤ)) (w : List ℕ) (x : ℤ) → length w �
 in_vector triples w x many l = subst (λ (n : ℕ). edge_of x < n) (sym many) l
 
 module _ (laws : VectorLaws) (labels : LabelLaws) (relabellings : RelabellingLaws) (before target : List (List ℤ))
-    (w : List ℕ) (sound : IsTriangulation before) (other : IsTriangulation target) (multicurve : IsMulticurve before w) (edges : edge_count target ≡ edge_count before) where
+    (w : List ℕ) (sound : IsTriangulation before) (other : IsTriangulation target) (multicurve : IsMulticurve before w)
+    (edges : edge_count target ≡ edge_count before) where
   there : (e a b c d : ℤ) → TriangleLaws before → IsFlip before target e a b c d → IsFlipOf w e a b c d
   there e a b c d triangles h =
       let here : AreSides before e a b c d = sides before target e a b c d labels triangles h in
@@ -73,7 +75,8 @@ module _ (laws : VectorLaws) (labels : LabelLaws) (relabellings : RelabellingLaw
     as_long = (laws.moves before target (relabel images) w sound other h multicurve).multicurve.one_per_edge ∙ sym many;
     within = λ k low. in_vector target w (image_of images (pos k)) many
         (h.labels k (pos 0) (subst (λ (n : ℕ). k < n) (multicurve.one_per_edge ∙ sym h.one_per_edge) low));
-    moved = λ k low. laws.numbers.moved before target images w (pos k) h (subst (λ (n : ℕ). k < n) multicurve.one_per_edge low);
+    moved = λ k low. laws.numbers.moved before target images w (pos k) h (subst (λ (n : ℕ). k < n)
+        multicurve.one_per_edge low);
     onto = λ e low.
         (let (d, within, is) = relabellings.onto before target images h e (subst (λ (n : ℕ). e < n) many low) in
         (d, subst (λ (n : ℕ). d < n) (sym multicurve.one_per_edge) within, is));

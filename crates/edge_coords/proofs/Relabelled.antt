@@ -1,6 +1,7 @@
--- A relabelling writes the number of each edge to the edge of its image. Each number that is written is the one that the
--- vector after the relabelling has there, and each edge is the image of one: so in the end it is that vector.
-use Rattle.std.proofs.Common.{◌≡◌, ◌≢◌, ◌<◌, ◌≤◌, ◌+◌, ◌⊎◌, inl, inr, ℕ, ℤ, pos, List, length, take, drop, get_or, set, refl, sym, ◌∙◌, ap, subst, arith, length-set, get_or-set_same, get_or-set_other}
+-- A relabelling writes the number of each edge to the edge of its image. Each number that is written is the one that
+-- the vector after the relabelling has there, and each edge is the image of one: so in the end it is that vector.
+use Rattle.std.proofs.Common.{◌≡◌, ◌≢◌, ◌<◌, ◌≤◌, ◌+◌, ◌⊎◌, inl, inr, ℕ, ℤ, pos, List, length, take, drop, get_or, set}
+use Rattle.std.proofs.Common.{refl, sym, ◌∙◌, ap, subst, arith, length-set, get_or-set_same, get_or-set_other}
 use Rattle.std.proofs.lemmas.Bool.{cases_eq}
 use Rattle.std.proofs.lemmas.List.{ext_get_or, get_or-take, length-take-le, drop-set-lt}
 use Rattle.std.proofs.lemmas.List.Elements.{All-from_get_or}
@@ -23,7 +24,8 @@ pub record IsMovedUpTo (images : List ℤ) (v before numbers : List ℕ) (count 
   pub placed : (j : ℕ) → j < k → get_or numbers (place_of images j) 0 ≡ get_or v (place_of images j) 0
   pub rest : drop count numbers ≡ drop count before
 
-pub moved_more : (images : List ℤ) (v before numbers : List ℕ) (count k n i : ℕ) → count ≤ EDGES → i ≡ place_of images k → i < count
+pub moved_more : (images : List ℤ) (v before numbers : List ℕ) (count k n i : ℕ) → count ≤ EDGES
+    → i ≡ place_of images k → i < count
     → n ≡ get_or v (place_of images k) 0 → IsMovedUpTo images v before numbers count k
     → IsMovedUpTo images v before (set numbers i n) count (k + 1)
 moved_more images v before numbers count k n i few place within is h = record {

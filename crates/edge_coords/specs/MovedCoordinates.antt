@@ -1,4 +1,5 @@
--- Coordinates after a move and at the end of a path, and the refusals of numbers that are too large.
+-- Coordinates after a move and at the end of a path, and the refusals of numbers that are too
+-- large.
 use Rattle.std.specs.Prelude.{◌≡◌, ◌+◌, ℕ, suc, ℤ, List, take, count_by}
 use Rattle.ideal_tri.specs.Curves.{IsSameCurves}
 use Rattle.ideal_tri.specs.Strands.{State, IsDrawing, words_of}

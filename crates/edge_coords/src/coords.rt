@@ -15,9 +15,9 @@ use tri_atlas::{Atlas, TriId};
 /// Each coordinate is below this, 2^126, so that the sum of any three fits.
 pub const COORDINATE_LIMIT: u128 = 1 << 126;
 
-/// The normal coordinates of a multicurve at a triangulation of an atlas (Bell's flipper): one number
-/// for each edge, below 2^126, of how often the multicurve crosses it. They stand in fixed memory, and
-/// mean nothing without their atlas.
+/// The normal coordinates of a multicurve at a triangulation of an atlas (Bell's flipper): one
+/// number for each edge, below 2^126, of how often the multicurve crosses it. They stand in fixed
+/// memory, and mean nothing without their atlas.
 #[derive(Clone, Copy, Debug, PartialEq, Eq)]
 pub struct Coords {
     pub(crate) tri: TriId,
@@ -27,8 +27,8 @@ pub struct Coords {
     pub(crate) numbers: [u128; EDGES],
 }
 
-/// Why numbers are not the coordinates of a multicurve. The tests are made in this order, each over all
-/// numbers or triangles before the next.
+/// Why numbers are not the coordinates of a multicurve. The tests are made in this order, each over
+/// all numbers or triangles before the next.
 #[derive(Clone, Copy, Debug, PartialEq, Eq)]
 pub enum CoordsError {
     /// There isn't one number for each edge; how many there are.

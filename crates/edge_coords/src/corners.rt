@@ -1,7 +1,7 @@
 //! Corners, and the curves that run round vertices.
 //!
-//! The corner named `x` lies at the head of the side `x`, between `x` and the side after it. A curve
-//! of the multicurve runs round a vertex exactly where all corners there have strands.
+//! The corner named `x` lies at the head of the side `x`, between `x` and the side after it. A
+//! curve of the multicurve runs round a vertex exactly where all corners there have strands.
 ghost use Rattle.std.specs.Prelude.{◌≡◌, ◌≢◌, ◌<◌, ◌≤◌, ◌+◌, ℤ, pos, length, take};
 ghost use Rattle.std.specs.Prelude.{IfSome, IfNone};
 ghost use Rattle.ideal_tri.specs.Labels.{inverse, edge_of};

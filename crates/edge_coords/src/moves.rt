@@ -1,8 +1,8 @@
 //! Coordinates across moves and along paths.
 //!
 //! A flip gives its edge the greater of the two sums of opposite sides of its quadrilateral, less
-//! the edge's number (Mosher; Penner and Harer), and a relabelling moves the numbers. So the numbers
-//! that a path gives are the crossings of the images of the curves, cyclically reduced.
+//! the edge's number (Mosher; Penner and Harer), and a relabelling moves the numbers. So the
+//! numbers that a path gives are the crossings of the images of the curves, cyclically reduced.
 ghost use Rattle.std.specs.Prelude.{◌≡◌, ◌<◌, ◌≤◌, ◌+◌, ℕ, ℤ, suc, length, take, drop, map};
 ghost use Rattle.std.specs.Prelude.{count_by, slice_set, All, IsTrue, IfOk, IfErr, OnOk, OnErr};
 ghost use Rattle.ideal_tri.specs.Labels.{edge_of};
@@ -181,8 +181,8 @@ fn flipped_number(w: &[u128], e: Label, a: Label, b: Label, c: Label, d: Label) 
     first.max(second) - weight(w, e)
 }
 
-/// Moves the number of each edge to the edge of its image. Only the first `count` numbers and images
-/// count.
+/// Moves the number of each edge to the edge of its image. Only the first `count` numbers and
+/// images count.
 fn relabel(numbers: &mut [u128; EDGES], count: usize, images: &[Label; EDGES])
     requires few { count ≤ EDGES }
     requires small { AreSmall (take count numbers.old) }

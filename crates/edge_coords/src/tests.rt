@@ -1,5 +1,5 @@
-//! Multicurves on small surfaces, and a slow way across moves: draw the curves strand by strand, put
-//! the image of each letter in its place, reduce, and count.
+//! Multicurves on small surfaces, and a slow way across moves: draw the curves strand by strand,
+//! put the image of each letter in its place, reduce, and count.
 ghost use Rattle.std.specs.Prelude.{◌≡◌};
 ghost use Rattle.tri_atlas.specs.Arena.{IsTriIn, IsMoveIn, source_of, target_of};
 ghost use Rattle.edge_coords.specs.Coordinates.{AreCoordinatesIn};
@@ -263,8 +263,9 @@ fn values(rt: HostRuntime) -> Result<(), Fail> {
 
 #[test]
 fn curves_round_vertices(rt: HostRuntime) -> Result<(), Fail> {
-    // the corner between the edges 0 and 1, the least vertex with strands all round, and what is left;
-    // both ends of each edge of the torus, and of edge 1 of the folded sphere, are at one vertex
+    // the corner between the edges 0 and 1, the least vertex with strands all round, and what is
+    // left; both ends of each edge of the torus, and of edge 1 of the folded sphere, are at one
+    // vertex
     for (triples, values, corner, vertex, rest) in [
         (TORUS, [3, 3, 2], 2, Some(0), [1, 1, 0]),
         (TORUS, [1, 1, 0], 1, None, [1, 1, 0]),

@@ -33,7 +33,8 @@ pub(crate) fn branches(alloc: Global, tri: &Tri, left_out: &[Label]) -> Result<V
 pub(crate) fn branch_law(tri: &Tri, left_out: &[Label])
     requires sound { IsTriangulation tri.now }
     requires single { IsSingleInTriangles tri.now left_out.now }
-    ensures walks { All (IsWalkOn tri.now) (map (walk_of tri.now) (branch_words tri.now left_out.now)) }
+    ensures walks { All (IsWalkOn tri.now) (map (walk_of tri.now) (branch_words tri.now
+        left_out.now)) }
     ensures list { IsBranchList tri.now left_out.now
         (words_of (map (walk_of tri.now) (branch_words tri.now left_out.now))) }
 {

@@ -93,7 +93,8 @@ impl Track {
         left_out: &[Label],
     ) -> Result<Track, TrackError>
         requires { IsTriIn atlas.now t }
-        ensures accepted { IfOk result (λ track. (track.tri ≡ t) × (track.left_out ≡ left_out.now)) }
+        ensures accepted { IfOk result (λ track. (track.tri ≡ t) × (track.left_out
+            ≡ left_out.now)) }
         ensures here { IfOk result (IsTrackIn atlas.now) }
         ensures refused { IfErr result (IsRefusedFor (triangulation atlas.now t) left_out.now) }
     {
@@ -127,7 +128,8 @@ impl Track {
     ) -> Result<Track, TrackError>
         requires tri { IsTriIn atlas.now t }
         requires placed { ArePlaced (triangulation atlas.now t) left_out.items }
-        ensures accepted { IfOk result (λ track. (track.tri ≡ t) × (track.left_out ≡ left_out.items)) }
+        ensures accepted { IfOk result (λ track. (track.tri ≡ t) × (track.left_out
+            ≡ left_out.items)) }
         ensures here { IfOk result (IsTrackIn atlas.now) }
         ensures refused { IfErr result (IsNotFilling (triangulation atlas.now t) left_out.items) }
     {

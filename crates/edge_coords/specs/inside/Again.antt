@@ -4,7 +4,8 @@ use Rattle.std.proofs.lemmas.List.{length-take-le, take-append-drop}
 use Rattle.ideal_tri.specs.declared.tri.TheConstants.{EDGES}
 use Rattle.edge_coords.specs.inside.LaidOut.{IsLaidOut, spare_numbers}
 
-pub count_again : (count : ℕ) (numbers : List ℕ) → IsLaidOut count numbers → length (take count numbers) ≡ count
+pub count_again : (count : ℕ) (numbers : List ℕ) → IsLaidOut count numbers
+    → length (take count numbers) ≡ count
 count_again count numbers h =
     let fits : count ≤ EDGES = h.fits in
     let room : length numbers ≡ EDGES = h.room in

@@ -1,5 +1,7 @@
--- How coordinates are laid out: in an array with one place for each of the most edges, with zeros after the last.
-use Rattle.std.specs.Prelude.{◌≡◌, ◌<◌, ◌≤◌, ◌-◌, ◌+◌, ◌++◌, ℕ, List, length, take, drop, replicate, All}
+-- How coordinates are laid out: in an array with one place for each of the most edges, with zeros
+-- after the last.
+use Rattle.std.specs.Prelude.{◌≡◌, ◌<◌, ◌≤◌, ◌-◌, ◌+◌, ◌++◌, ℕ, List, length, take, drop, replicate}
+use Rattle.std.specs.Prelude.{All}
 use Rattle.edge_coords.specs.Coordinates.{AreSmall}
 use Rattle.ideal_tri.specs.declared.tri.TheConstants.{EDGES}
 

@@ -15,15 +15,16 @@ pub record IsFlipOf (w : List ℕ) (e a b c d : ℤ) : Type 0 where
   pub d_in : edge_of d < length w
   pub enough : weight w e ≤ greater_sum w a b c d
 
--- the images are those of a bijection of the edges of w, and the vector after the relabelling has the number of each
--- edge at the edge of its image
+-- the images are those of a bijection of the edges of w, and the vector after the relabelling has
+-- the number of each edge at the edge of its image
 pub record IsRelabellingOf (w : List ℕ) (images : List ℤ) : Type 0 where
   pub as_many : length images ≡ length w
   pub as_long : length (vector_after (relabel images) w) ≡ length w
   pub within : (k : ℕ) → k < length w → edge_of (image_of images (pos k)) < length w
   pub moved : (k : ℕ) → k < length w
       → weight (vector_after (relabel images) w) (image_of images (pos k)) ≡ slice_index w k
-  pub onto : (e : ℕ) → e < length w → (k : ℕ) × (k < length w) × (edge_of (image_of images (pos k)) ≡ e)
+  pub onto : (e : ℕ) → e < length w → (k : ℕ) × (k < length w)
+      × (edge_of (image_of images (pos k)) ≡ e)
 
 -- the move can be made on w
 abbrev pub IsStepOf : List ℕ → Move → Type 0

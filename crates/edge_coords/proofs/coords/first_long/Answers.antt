@@ -11,12 +11,14 @@ has_no_long_side-requires-clause-sides c =
 
 pub returns-then-not-has_no_long_side-clause-some : goal.returns-then-not-has_no_long_side-clause-some
 returns-then-not-has_no_long_side-clause-some c =
-    least_failing (HasNoLongSide c.args.w.now) c.args.tri.now c.triple.result c.loop-t.t (omega arith) c.triple.ensures.triple
+    least_failing (HasNoLongSide c.args.w.now) c.args.tri.now c.triple.result c.loop-t.t (omega arith)
+    c.triple.ensures.triple
     c.loop-t.invariant (λ here. let t : IsTrue false = c.if-not-has_no_long_side.ensures.1 here in grind arith)
 
 pub loop-t-preserved : goal.loop-t-preserved
 loop-t-preserved c =
-    pass_next (HasNoLongSide c.args.w.now) c.args.tri.now c.triple.result c.loop-t.t c.triple.ensures.triple c.loop-t.invariant
+    pass_next (HasNoLongSide c.args.w.now) c.args.tri.now c.triple.result c.loop-t.t c.triple.ensures.triple
+    c.loop-t.invariant
     (c.if-not-has_no_long_side.ensures.0 refl)
 
 pub returns-clause-none : goal.returns-clause-none

@@ -16,7 +16,8 @@ loop-preserved c = record {
       subst (IsLabel c.args.tri.now) (sym c.inverse-corner.ensures)
       (c.label_laws.ensures.label c.args.tri.now c.next.result c.next.ensures.label);
   so_far =
-      least_more c.args.tri.now c.args.w.now c.args.x c.loop.corner c.inverse-corner.result c.loop.least c.corner_count.result
+      least_more c.args.tri.now c.args.w.now c.args.x c.loop.corner c.inverse-corner.result c.loop.least
+      c.corner_count.result
       c.min-least.result c.loop.counter (omega (arith, c.loop-test.true, c.edges-end.ensures.count))
       (c.inverse-corner.ensures ∙ ap inverse c.next.ensures.next) c.corner_count.ensures c.min-least.ensures
       c.loop.invariant.so_far;

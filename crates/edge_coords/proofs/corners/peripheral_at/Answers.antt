@@ -12,4 +12,5 @@ returns-in-Some-clause-some c =
 
 pub returns-in-None-clause-none : goal.returns-in-None-clause-none
 returns-in-None-clause-none c =
-    free_corners c.args.tri.now c.args.w.now (c.corner_laws.ensures c.args.tri.now c.requires.sound) c.in-None.ensures.none
+    free_corners c.args.tri.now c.args.w.now (c.corner_laws.ensures c.args.tri.now c.requires.sound)
+    c.in-None.ensures.none

@@ -1,4 +1,5 @@
-use Rattle.std.proofs.Common.{◌≡◌, ◌-◌, ◌+◌, ◌≤◌, ◌<◌, ℕ, ℤ, List, pos, negsuc, length, slice_index, map, sym, ◌∙◌, ap, subst, arith}
+use Rattle.std.proofs.Common.{◌≡◌, ◌-◌, ◌+◌, ◌≤◌, ◌<◌, ℕ, ℤ, List, pos, negsuc, length, slice_index, map, sym, ◌∙◌, ap}
+use Rattle.std.proofs.Common.{subst, arith}
 use Rattle.std.specs.List.{range_with_len}
 use Rattle.ideal_tri.specs.Labels.{inverse}
 use Rattle.ideal_tri.specs.Triangulations.{edge_count}
@@ -24,7 +25,8 @@ pub loop-e-preserved : goal.loop-e-preserved
 unfolding left_at
 loop-e-preserved c =
     filled_more (left_at c.args.tri.now c.args.w.now) c.loop-e.numbers c.loop-e.e _ (omega arith)
-    (rounded_at c.args.tri.now c.args.w.now c.loop-e.e c.rounded.result c.label_of.result c.label_of.ensures c.rounded.ensures.value)
+    (rounded_at c.args.tri.now c.args.w.now c.loop-e.e c.rounded.result c.label_of.result c.label_of.ensures
+    c.rounded.ensures.value)
     c.loop-e.invariant
 
 pub returns-clause-value : goal.returns-clause-value

@@ -10,6 +10,7 @@ returns-clause-along c =
     c.vector_laws.ensures.paths (triangulation arena c.args.w.now.tri) (triangulation arena c.args.p.now.end)
     (moves_of arena c.args.p.now) c.args.w.now.numbers
     (c.base.ensures.sound.sound c.args.w.now.tri c.requires.coordinates.tri_in)
-    (subst (λ (t : ℕ). ArePath (triangulation arena t) (moves_of arena c.args.p.now) (triangulation arena c.args.p.now.end))
+    (subst (λ (t : ℕ). ArePath (triangulation arena t) (moves_of arena c.args.p.now) (triangulation arena
+    c.args.p.now.end))
     c.requires.starts (c.atlas_laws.ensures.ways.leads arena c.args.p.now c.base.ensures.sound c.requires.path))
     c.requires.coordinates.multicurve

@@ -6,5 +6,6 @@ use Rattle.edge_coords.proofs.moves.relabel.Given as goal
 
 abbrev pub invariant-loop-k : goal.invariant-loop-k
 invariant-loop-k l =
-    IsMovedUpTo (take l.count l.images) (vector_after (relabel (take l.count l.images)) (take l.count l.before)) l.before
+    IsMovedUpTo (take l.count l.images) (vector_after (relabel (take l.count l.images)) (take l.count l.before))
+    l.before
     l.numbers l.count l.k

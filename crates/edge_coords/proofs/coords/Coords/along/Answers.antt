@@ -8,8 +8,10 @@ use Rattle.edge_coords.proofs.coords.Coords.along.Goals as goal
 
 pub flips-requires : goal.flips-requires
 flips-requires c =
-    here_more c.args.atlas.now c.moves-moves.result.now c.loop-k.k c.index-moves-k.result c.loop-k-test.true c.index-moves-k.is
-    (lead_here c.args.atlas.now c.loop-k.moved.tri c.args.p.now.end c.moves-moves.result.now c.loop-k.k c.index-moves-k.result
+    here_more c.args.atlas.now c.moves-moves.result.now c.loop-k.k c.index-moves-k.result c.loop-k-test.true
+    c.index-moves-k.is
+    (lead_here c.args.atlas.now c.loop-k.moved.tri c.args.p.now.end c.moves-moves.result.now c.loop-k.k
+    c.index-moves-k.result
     c.loop-k-test.true c.index-moves-k.is c.loop-k.invariant.lead).0
     c.loop-k.invariant.moves_here
 
@@ -19,7 +21,8 @@ returns-in-Err-clause-refused c =
     (record { flip = c.flips.result; edge = c.in-Err.overflow.edge; value = c.in-Err.overflow.value }))
     c.moves-moves.ensures
     (first_overflow c.args.atlas.now c.moves-moves.result.now c.args.self.now.numbers c.loop-k.moved.numbers c.loop-k.k
-    c.flips.result c.index-moves-k.result c.in-Err.overflow c.loop-k-test.true c.index-moves-k.is c.loop-k.invariant.numbers
+    c.flips.result c.index-moves-k.result c.in-Err.overflow c.loop-k-test.true c.index-moves-k.is
+    c.loop-k.invariant.numbers
     c.in-Err.ensures.refused c.loop-k.invariant.fits c.flips.ensures)
 
 pub loop-k-preserved : goal.loop-k-preserved
@@ -37,11 +40,13 @@ loop-k-preserved c =
     record {
       numbers =
           ap (λ (d : Coordinates). d.numbers) c.in_default.ensures.moved
-          ∙ numbers_more arena handles c.args.self.now.numbers c.loop-k.moved.numbers c.loop-k.k m next c.loop-k-test.true
+          ∙ numbers_more arena handles c.args.self.now.numbers c.loop-k.moved.numbers c.loop-k.k m next
+          c.loop-k-test.true
           c.index-moves-k.is c.loop-k.invariant.numbers;
       here = c.in_default.ensures.here;
       moves_here =
-          here_more arena handles c.loop-k.k m c.loop-k-test.true c.index-moves-k.is lead.0 c.loop-k.invariant.moves_here;
+          here_more arena handles c.loop-k.k m c.loop-k-test.true c.index-moves-k.is lead.0
+          c.loop-k.invariant.moves_here;
       lead =
           subst (λ (t : ℕ). Lead arena t (drop (c.loop-k.k + 1) handles) c.args.p.now.end)
           (sym (ap (λ (d : Coordinates). d.tri) c.in_default.ensures.moved)) lead.2;

@@ -9,4 +9,5 @@ returns-in_err-self-clause-refused c =
     let p = err_from_is_err_and c.from_residual.result c.from_residual.ensures.1 in
     rw (p.1, p.2)
     (overflow_along (triangulation c.args.atlas.now c.args.self.now.tri) c.args.self.now.numbers
-    (moves_of c.args.atlas.now c.args.p.now) c.in_err-self.field-0.0 c.path_law.ensures.overflow c.in_err-self.ensures.refused)
+    (moves_of c.args.atlas.now c.args.p.now) c.in_err-self.field-0.0 c.path_law.ensures.overflow
+    c.in_err-self.ensures.refused)
