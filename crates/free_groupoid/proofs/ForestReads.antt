@@ -65,9 +65,8 @@ module _ (triples : List (List ℤ)) where
   here xs n d inside = (n, inside, get_or_default xs n (get_or xs n d) d inside)
 
   pub outer_below : (edges : List ℕ) → edges ≡ outer_edges triples → All (λ e. e < edge_count triples) edges
-  outer_below edges h = λ n d inside. (edge_outer triples (get_or edges n d) 
-    (subst (λ (es : List ℕ). Contains es (get_or edges n d)) h (here edges n d inside))).label
-
+  outer_below edges h = λ n d inside. (edge_outer triples (get_or edges n d)
+      (subst (λ (es : List ℕ). Contains es (get_or edges n d)) h (here edges n d inside))).label
 
 -- ---- loops
 

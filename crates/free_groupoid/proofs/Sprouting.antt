@@ -86,7 +86,7 @@ module _ (triples : List (List ℤ)) where
       let rest : drop i nodes ≡ n ∷ todo = drop_more nodes (length old + k) (root_node t) there in
       let long : length done ≡ i = length-take-le (length old + k) nodes (omega arith) in
       let is_new : new ≡ (done ++ n ∷ []) ++ sprout triples n (sides_in_order triples n.triangle) (done ++ n ∷ []) todo =
-          turned done todo n (sym (take-append-drop i nodes) ∙ ap (λ (ns : List Node). done ++ ns) rest) long in
+      turned done todo n (sym (take-append-drop i nodes) ∙ ap (λ (ns : List Node). done ++ ns) rest) long in
       let place : length (done ++ n ∷ []) ≡ length old + (k + 1) = length_push done n ∙ omega arith in
       let left : length triples - k ≡ suc (length triples - (k + 1)) = omega arith in
       ap (λ (ns : List Node). grow triples (length triples - (k + 1)) (take (length old + (k + 1)) ns) (drop (length old + (k + 1)) ns)) is_new
@@ -134,7 +134,7 @@ last_read x (y ∷ w) d = last_read y w d
 
 pub ends_across_last : (e : ℕ) (w : List ℤ) (x : ℤ) → 0 < length w → x ≡ get_or w (length w - 1) x → nat_eq (edge_of x) e ≡ ends_across e w
 ends_across_last e [] x some is_x = absurd (omega arith)
-ends_across_last e (y ∷ w) x some is_x = ap (λ (z : ℤ). nat_eq (edge_of z) e) 
+ends_across_last e (y ∷ w) x some is_x = ap (λ (z : ℤ). nat_eq (edge_of z) e)
     (is_x ∙ ap (λ (n : ℕ). get_or (y ∷ w) n x) (let place : length (y ∷ w) - 1 ≡ length w = omega arith in place) ∙ last_read y w x)
 
 -- the node that was read
