@@ -56,6 +56,8 @@ pub mod RootPaths
 pub mod Conjugators
 pub mod RootWalks
 pub mod ComputedPaths
+pub mod ComputedWords
+pub mod InnerSearch
 pub mod InnerTest
 pub mod Returns
 pub mod RelatedTest

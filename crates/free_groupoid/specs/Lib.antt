@@ -7,6 +7,7 @@ pub mod TestWalks
 pub mod Inner
 pub mod Related
 pub mod ForestLaws
+pub mod InnerAnswers
 pub mod InnerLaws
 pub mod RelatedLaws
 pub mod inside

@@ -8,6 +8,10 @@ pub record DualWalk : Type 0 where
   pub start : ℕ
   pub letters : List ℤ
 
+-- the walk with this number
+abbrev pub walk_at : List DualWalk → ℕ → DualWalk
+walk_at walks n = slice_index_or walks n (record { start = 0; letters = [] })
+
 -- it starts at a triangle, and each letter starts where the one before ended
 pub record IsWalkOn (triples : List (List ℤ)) (w : DualWalk) : Type 0 where
   pub start_in : w.start < length triples

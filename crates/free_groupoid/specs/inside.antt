@@ -4,3 +4,4 @@ pub mod Images
 pub mod Fields
 pub mod InnerPaths
 pub mod Sprouting
+pub mod ComputedWalks

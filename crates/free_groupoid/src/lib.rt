@@ -4,6 +4,8 @@
 mod forest;
 mod images;
 mod inner_maps;
+mod inner_paths;
+mod inner_test;
 mod laws;
 mod letter;
 mod map;
@@ -13,6 +15,7 @@ mod walk;
 mod word;
 
 pub use inner_maps::{forest_laws, inner_laws, related_laws};
+pub use inner_test::{InnerAnswer, inner};
 pub use laws::groupoid_laws;
 pub use letter::{LetterImage, move_image};
 pub use map::{Map, MapError};

@@ -3,7 +3,8 @@ ghost use Rattle.std.specs.Prelude.{◌≡◌, ◌<◌, ◌≤◌, ◌^◌, ℕ,
 ghost use Rattle.ideal_tri.specs.Triangulations.{edge_count};
 ghost use Rattle.tri_atlas.specs.Arena.{Arena, IsArena, triangulation, IsTriIn, IsMoveIn, source_of};
 ghost use Rattle.tri_atlas.specs.Paths.{IsPathIn};
-ghost use Rattle.free_groupoid.specs.GroupoidMaps.{IsMapIn, identity_map, followed, followed_along, composed, image_walk, vertex_image, letters_in, map_of_walks, AreImages};
+ghost use Rattle.free_groupoid.specs.GroupoidMaps.{IsMapIn, identity_map, followed, followed_along, composed, image_walk, vertex_image, letters_in, map_of_walks, AreImages, substitution, reduced_image};
+ghost use Rattle.free_groupoid.specs.inside.Images.{IsBelow};
 ghost use Rattle.free_groupoid.specs.Walks.{IsWalkOn};
 ghost use Rattle.free_groupoid.specs.MapRefusals.{IsMoveRefusal, IsPathRefusal, IsCompositeRefusal, StaysWithin};
 
@@ -217,6 +218,14 @@ impl Map {
             start: self.vertex(w.start),
             letters: substituted(alloc, self.images.as_slice(), &w.letters)?,
         })
+    }
+
+    /// A word with the images in the place of its letters, reduced.
+    pub(crate) fn substituted(&self, alloc: Global, word: &[Label]) -> Result<Vec<Label>, Memory>
+        requires { IsBelow (length self.now.images) word.now }
+        ensures { IfOk result (λ v. v.items ≡ reduced_image (substitution self.now.images) word.now) }
+    {
+        substituted(alloc, self.images.as_slice(), word)
     }
 
     /// The image of triangle `t` of the source.

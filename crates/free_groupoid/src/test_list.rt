@@ -67,7 +67,7 @@ pub(crate) fn test_words(
 }
 
 /// The edges that no tree crosses, in order.
-fn outer_edges(alloc: Global, tri: &Tri, trees: &Forest) -> Result<Vec<u32>, Memory>
+pub(crate) fn outer_edges(alloc: Global, tri: &Tri, trees: &Forest) -> Result<Vec<u32>, Memory>
     requires { trees.now ≡ forest tri.now }
     ensures value { IfOk result (λ v. v.items ≡ outer_edges tri.now) }
     ensures edges { IfOk result (λ v. All (λ e. e < edge_count tri.now) v.items) }
@@ -111,7 +111,7 @@ fn push_products(
 }
 
 /// The label of an edge that isn't negative.
-fn label(tri: &Tri, e: u32) -> Label
+pub(crate) fn label(tri: &Tri, e: u32) -> Label
     requires { e < edge_count tri.now }
     ensures { result ≡ pos e }
 {
@@ -120,7 +120,7 @@ fn label(tri: &Tri, e: u32) -> Label
 }
 
 /// The root of the component of an edge.
-fn root_of_edge(tri: &Tri, trees: &Forest, e: u32) -> u32
+pub(crate) fn root_of_edge(tri: &Tri, trees: &Forest, e: u32) -> u32
     requires trees { trees.now ≡ forest tri.now }
     requires edge { e < edge_count tri.now }
     ensures { result ≡ root_of_edge tri.now e }

@@ -1,9 +1,9 @@
 -- Lists of words in the place of letters, as the private parts of maps have them.
-use Rattle.std.specs.Prelude.{◌≡◌, ◌<◌, ℕ, ℤ, pos, negsuc, List, [], Vec, length, map, slice_index, slice_index_or, All}
+use Rattle.std.specs.Prelude.{◌≡◌, ◌<◌, ℕ, ℤ, pos, negsuc, List, Vec, length, map, slice_index, All}
 use Rattle.std.specs.Global.{Global}
 use Rattle.ideal_tri.specs.Labels.{edge_of}
 use Rattle.ideal_tri.specs.Triangulations.{IsWalk, edge_count, triangle_of}
-use Rattle.free_groupoid.specs.Walks.{DualWalk}
+use Rattle.free_groupoid.specs.Walks.{DualWalk, walk_at}
 
 -- the words that the vectors hold
 abbrev pub words_of : List (Vec ℤ Global) → List (List ℤ)
@@ -12,10 +12,6 @@ words_of vectors = map (λ v. v.items) vectors
 -- each letter is of one of the first n edges
 abbrev pub IsBelow : ℕ → List ℤ → Type 0
 IsBelow n w = All (λ x. edge_of x < n) w
-
--- the walk with this number
-abbrev pub walk_at : List DualWalk → ℕ → DualWalk
-walk_at walks n = slice_index_or walks n (record { start = 0; letters = [] })
 
 -- the walks of the labels 0, 1, .. lead from the image of each one's triangle to that of the triangle of its inverse
 pub record JoinImages (before after : List (List ℤ)) (walks : List DualWalk) (triangles : List ℕ) : Type 0 where
