@@ -1,5 +1,6 @@
 -- Words put behind a reduced word, and reduced again: the word is the reduction of all that was put together.
-use Rattle.std.proofs.Common.{ℕ, ℤ, List, [], ◌∷◌, ◌++◌, ◌≡◌, ◌+◌, ◌-◌, ◌<◌, refl, sym, ◌∙◌, ap, subst, append_assoc, arith, length, take, drop, get_or}
+use Rattle.std.proofs.Common.{ℕ, ℤ, List, [], ◌∷◌, ◌++◌, ◌≡◌, ◌+◌, ◌-◌, ◌<◌, refl, sym, ◌∙◌, ap, subst, append_assoc}
+use Rattle.std.proofs.Common.{arith, length, take, drop, get_or}
 use Rattle.std.specs.List.{flat_map}
 use Rattle.std.proofs.lemmas.List.{append-nil, take_more, drop_more}
 use Rattle.std.proofs.lemmas.List.Concat.{flat_map-append}
@@ -22,7 +23,8 @@ reduces_itself r w b h e = record {
 }
 
 -- p is put behind the word so far
-pub next : ReductionLaws → (p a so_far b new : List ℤ) → Reduces a so_far → new ≡ reduce (so_far ++ p) → a ++ p ≡ b → Reduces b new
+pub next : ReductionLaws → (p a so_far b new : List ℤ) → Reduces a so_far → new ≡ reduce (so_far ++ p) → a ++ p ≡ b
+    → Reduces b new
 next r p a so_far b new h e f = record {
   value = e ∙ ap (λ (z : List ℤ). reduce (z ++ p)) h.value ∙ reduce-left r a p ∙ ap reduce f;
 }
@@ -30,7 +32,8 @@ next r p a so_far b new h e f = record {
 -- ---- what is put behind the words of loops
 
 -- a letter x of the word `more`
-pub letters_on : (a more : List ℤ) (i : ℕ) (x : ℤ) → i < length more → x ≡ get_or more i x → (a ++ take i more) ++ (x ∷ []) ≡ a ++ take (i + 1) more
+pub letters_on : (a more : List ℤ) (i : ℕ) (x : ℤ) → i < length more → x ≡ get_or more i x
+    → (a ++ take i more) ++ (x ∷ []) ≡ a ++ take (i + 1) more
 letters_on a more i x h e =
     append_assoc a (take i more) (x ∷ [])
     ∙ ap (λ (z : ℤ). a ++ (take i more ++ (z ∷ []))) e
@@ -44,7 +47,8 @@ letters_back a more n k x long h e =
     let after : (n - (k + 1)) + 1 ≡ n - k = omega arith in
     append_assoc a (inverse_word (drop (n - k) more)) (inverse x ∷ [])
     ∙ ap (λ (i : ℕ). a ++ (inverse_word (drop i more) ++ (inverse x ∷ []))) (sym after)
-    ∙ ap (λ (z : ℤ). a ++ (inverse_word (drop ((n - (k + 1)) + 1) more) ++ (inverse z ∷ []))) (e ∙ ap (λ (i : ℕ). get_or more i x) place)
+    ∙ ap (λ (z : ℤ). a ++ (inverse_word (drop ((n - (k + 1)) + 1) more) ++ (inverse z ∷ []))) (e
+    ∙ ap (λ (i : ℕ). get_or more i x) place)
     ∙ ap (λ (z : List ℤ). a ++ inverse_word z) (sym (drop_more more (n - (k + 1)) x (omega arith)))
 
 -- the image p of a letter x of a word

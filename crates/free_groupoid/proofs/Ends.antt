@@ -1,9 +1,11 @@
--- The cyclic reduction in place: letters at the two ends that are inverse to each other are counted from outside, and what
--- stands between them is kept.
-use Rattle.std.proofs.Common.{ℕ, zero, suc, ℤ, pos, negsuc, Bool, true, false, cond, List, [], ◌∷◌, ◌++◌, ◌≡◌, ◌≢◌, ◌+◌, ◌-◌, ◌*◌, ◌<◌, ◌≤◌, refl, sym, ◌∙◌, ap, arith, length, take, drop, get_or}
+-- The cyclic reduction in place: letters at the two ends that are inverse to each other are counted from outside, and
+-- what stands between them is kept.
+use Rattle.std.proofs.Common.{ℕ, zero, suc, ℤ, pos, negsuc, Bool, true, false, cond, List, [], ◌∷◌, ◌++◌, ◌≡◌, ◌≢◌, ◌+◌}
+use Rattle.std.proofs.Common.{◌-◌, ◌*◌, ◌<◌, ◌≤◌, refl, sym, ◌∙◌, ap, arith, length, take, drop, get_or}
 use Rattle.std.specs.Ordering.{int_eq}
 use Rattle.std.proofs.lemmas.Bool.Decides.{Decides-int_eq}
-use Rattle.std.proofs.lemmas.List.{take_more, drop_more, get_or-drop, take_at, take_all, drop-take, length-take-le, length-drop}
+use Rattle.std.proofs.lemmas.List.{take_more, drop_more, get_or-drop, take_at, take_all, drop-take, length-take-le}
+use Rattle.std.proofs.lemmas.List.{length-drop}
 use Rattle.ideal_tri.specs.Labels.{inverse}
 use Rattle.ideal_tri.specs.Words.{reduce, last_of, but_last, strip, cyclic_reduce}
 
@@ -15,15 +17,23 @@ pub length-middle : (k : ℕ) (w : List ℤ) → 2 * k ≤ length w → length (
 length-middle k w h = length-take-le (length w - 2 * k) (drop k w) (omega (arith, length-drop k w))
 
 -- the two letters at its ends, and what is between
-pub middle-more : (k : ℕ) (w : List ℤ) (x y : ℤ) → 2 * k + 1 < length w → x ≡ get_or w k x → y ≡ get_or w (length w - 1 - k) y
+pub middle-more : (k : ℕ) (w : List ℤ) (x y : ℤ) → 2 * k + 1 < length w → x ≡ get_or w k x
+    → y ≡ get_or w (length w - 1 - k) y
     → middle k w ≡ x ∷ (middle (k + 1) w ++ (y ∷ []))
 middle-more k w x y h is_x is_y =
-    ap (λ (n : ℕ). take n (drop k w)) (let long : length w - 2 * k ≡ suc (length w - 2 * (k + 1) + 1) = omega arith in long)
-    ∙ ap (take (suc (length w - 2 * (k + 1) + 1))) (drop_more w k x (omega arith) ∙ ap (λ (z : ℤ). z ∷ drop (k + 1) w) (sym is_x))
-    ∙ ap (λ (z : List ℤ). x ∷ z) (take_more (drop (k + 1) w) (length w - 2 * (k + 1)) y (omega (arith, length-drop (k + 1) w)))
+    ap (λ (n : ℕ). take n (drop k w)) (let long : length w - 2 * k
+    ≡ suc (length w - 2 * (k + 1) + 1) = omega arith in long)
+    ∙ ap (take (suc (length w - 2 * (k + 1) + 1))) (drop_more w k x (omega arith)
+    ∙ ap (λ (z : ℤ). z ∷ drop (k + 1) w) (sym is_x))
+    ∙ ap (λ (z : List ℤ). x ∷ z) (take_more (drop (k + 1) w) (length w - 2 * (k + 1)) y (omega (
+      arith,
+      length-drop (k +
+          1) w,
+    )))
     ∙ ap (λ (z : ℤ). x ∷ (middle (k + 1) w ++ (z ∷ [])))
     (get_or-drop (k + 1) w (length w - 2 * (k + 1)) y
-    ∙ ap (λ (n : ℕ). get_or w n y) (let place : k + 1 + (length w - 2 * (k + 1)) ≡ length w - 1 - k = omega arith in place)
+    ∙ ap (λ (n : ℕ). get_or w n y) (let place : k + 1 + (length w - 2 * (k + 1))
+    ≡ length w - 1 - k = omega arith in place)
     ∙ sym is_y)
 
 -- ---- one step of the definition
@@ -114,7 +124,10 @@ pub turned_and_cut : (w : List ℤ) (n : ℕ) → 2 * n ≤ length w
     → take (length w - n - n) (drop n (take (length w - n) w) ++ take n (take (length w - n) w)) ≡ middle n w
 turned_and_cut w n h =
     let kept : length (take (length w - n) w) ≡ length w - n = length-take-le (length w - n) w (omega arith) in
-    take_at (drop n (take (length w - n) w)) (take n (take (length w - n) w)) (length w - n - n) (omega (arith, length-drop n (take (length w - n) w)))
+    take_at (drop n (take (length w - n) w)) (take n (take (length w - n) w)) (length w - n - n) (omega (
+      arith,
+      length-drop n (take (length w - n) w),
+    ))
     ∙ ap (λ (k : ℕ). drop n (take k w)) (let long : length w - n ≡ n + (length w - 2 * n) = omega arith in long)
     ∙ drop-take n (length w - 2 * n) w
 

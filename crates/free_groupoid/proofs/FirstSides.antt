@@ -9,12 +9,15 @@ use Rattle.ideal_tri.specs.Triangulations.{IsTriangulation, IsLabel, triangle_of
 use Rattle.tri_atlas.specs.Moves.{first_side}
 
 -- the first of the sides that were read of triangle t
-pub first_read : (triples : List (List ℤ)) (t : ℕ) (triple : List ℤ) (d : ℤ) → slice_get triples t ≡ Some triple → 0 < length triple
+pub first_read : (triples : List (List ℤ)) (t : ℕ) (triple : List ℤ) (d : ℤ) → slice_get triples t ≡ Some triple
+    → 0 < length triple
     → get_or triple 0 d ≡ first_side triples t
 first_read triples t triple d read some =
-    get_or_default triple 0 d (pos 0) some ∙ ap (λ (s : List ℤ). get_or s 0 (pos 0)) (sym (get_or_from_slice_get triples t triple [] read))
+    get_or_default triple 0 d (pos 0) some ∙ ap (λ (s : List ℤ). get_or s 0 (pos 0)) (sym (get_or_from_slice_get
+    triples t triple [] read))
 
-pub first_side_at : (triples : List (List ℤ)) → IsTriangulation triples → TriangleLaws triples → (t : ℕ) → t < length triples
+pub first_side_at : (triples : List (List ℤ)) → IsTriangulation triples → TriangleLaws triples → (t : ℕ)
+    → t < length triples
     → IsLabel triples (first_side triples t) × (triangle_of triples (first_side triples t) ≡ t)
 first_side_at triples sound laws t inside =
     let three : length (get_or triples t []) ≡ 3 = sound.three_sides t [] inside in

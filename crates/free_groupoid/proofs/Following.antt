@@ -22,24 +22,31 @@ few_edges arena t sound here =
 
 pub images_few : (arena : Arena) (f : GroupoidMap) → IsArena arena → IsMapIn arena f → All (IsBelow EDGES) f.images
 images_few arena f sound h = λ n d inside k e within.
-    let label : edge_of (get_or (get_or f.images n d) k e) < edge_count (triangulation arena f.target) = image_labels arena f h n d inside k e within in
+    let label : edge_of (get_or (get_or f.images n d) k e) < edge_count (triangulation arena f.target) = image_labels
+    arena f h n d inside k e within in
     let few : edge_count (triangulation arena f.target) ≤ EDGES = few_edges arena f.target sound h.target_in in
     omega arith
 
-module _ (arena : Arena) (f : GroupoidMap) (m : MoveHandle) (h : IsMapIn arena f) (follows : source_of arena m ≡ f.target) where
+module _ (arena : Arena) (f : GroupoidMap) (m : MoveHandle) (h : IsMapIn arena f) (follows : source_of arena m
+    ≡ f.target) where
   pub images_labelled : All (IsBelow (edge_count (triangulation arena (source_of arena m)))) f.images
-  images_labelled = subst (λ (t : ℕ). All (IsBelow (edge_count (triangulation arena t))) f.images) (sym follows) (image_labels arena f h)
+  images_labelled = subst (λ (t : ℕ). All (IsBelow (edge_count (triangulation arena t))) f.images) (sym follows)
+      (image_labels arena f h)
 
-  pub followed_images : (vectors seen made : List (Vec ℤ Global)) (step : Move) → words_of vectors ≡ f.images → seen ≡ vectors
+  pub followed_images : (vectors seen made : List (Vec ℤ Global)) (step : Move) → words_of vectors ≡ f.images
+      → seen ≡ vectors
       → step ≡ step_of arena m
-      → words_of made ≡ map (reduced_image (image_of_letter step)) (words_of seen) → words_of made ≡ (followed arena f m).images
+      → words_of made ≡ map (reduced_image (image_of_letter step)) (words_of seen)
+      → words_of made ≡ (followed arena f m).images
   followed_images vectors seen made step is_images is_seen is_step is_made =
       is_made
       ∙ ap (λ (n : Move). map (reduced_image (image_of_letter n)) (words_of seen)) is_step
       ∙ ap (map (reduced_image (image_of_letter (step_of arena m)))) (ap words_of is_seen ∙ is_images)
 
-  pub followed_triangles : (before after : List (List ℤ)) (step : Move) (triangles made : List ℕ) (count : ℕ) → before ≡ triangulation arena f.target
-      → after ≡ triangulation arena (target_of arena m) → step ≡ step_of arena m → take count triangles ≡ f.triangles → count ≤ length triangles
+  pub followed_triangles : (before after : List (List ℤ)) (step : Move) (triangles made : List ℕ) (count : ℕ)
+      → before ≡ triangulation arena f.target
+      → after ≡ triangulation arena (target_of arena m) → step ≡ step_of arena m → take count triangles ≡ f.triangles
+      → count ≤ length triangles
       → take (length (take count triangles)) made ≡ map (triangle_image before after step) (take count triangles)
       → take count made ≡ (followed arena f m).triangles
   followed_triangles before after step triangles made count is_before is_after is_step is_triangles many is_made =
@@ -47,15 +54,21 @@ module _ (arena : Arena) (f : GroupoidMap) (m : MoveHandle) (h : IsMapIn arena f
       ∙ is_made
       ∙ ap (λ (ts : List (List ℤ)). map (triangle_image ts after step) (take count triangles))
       (is_before ∙ ap (triangulation arena) (sym follows))
-      ∙ ap (λ (ts : List (List ℤ)). map (triangle_image (triangulation arena (source_of arena m)) ts step) (take count triangles)) is_after
-      ∙ ap (λ (n : Move). map (triangle_image (triangulation arena (source_of arena m)) (triangulation arena (target_of arena m)) n) (take count triangles)) is_step
-      ∙ ap (map (triangle_image (triangulation arena (source_of arena m)) (triangulation arena (target_of arena m)) (step_of arena m))) is_triangles
+      ∙ ap (λ (ts : List (List ℤ)). map (triangle_image (triangulation arena (source_of arena m)) ts step) (take count
+      triangles)) is_after
+      ∙ ap (λ (n : Move). map (triangle_image (triangulation arena (source_of arena m)) (triangulation arena (target_of
+      arena m)) n) (take count triangles)) is_step
+      ∙ ap (map (triangle_image (triangulation arena (source_of arena m)) (triangulation arena (target_of arena m))
+      (step_of arena m))) is_triangles
 
   -- the move leads from the triangulation that was read to the other
-  pub read_move : (before after : List (List ℤ)) (step : Move) → before ≡ triangulation arena f.target → after ≡ triangulation arena (target_of arena m)
-      → step ≡ step_of arena m → IsMove (triangulation arena (source_of arena m)) (triangulation arena (target_of arena m)) (step_of arena m)
+  pub read_move : (before after : List (List ℤ)) (step : Move) → before ≡ triangulation arena f.target
+      → after ≡ triangulation arena (target_of arena m)
+      → step ≡ step_of arena m → IsMove (triangulation arena (source_of arena m)) (triangulation arena (target_of arena
+      m)) (step_of arena m)
       → IsMove before after step
   read_move before after step is_before is_after is_step move =
       subst (λ (ts : List (List ℤ)). IsMove ts after step) (sym (is_before ∙ ap (triangulation arena) (sym follows)))
       (subst (λ (ts : List (List ℤ)). IsMove (triangulation arena (source_of arena m)) ts step) (sym is_after)
-      (subst (IsMove (triangulation arena (source_of arena m)) (triangulation arena (target_of arena m))) (sym is_step) move))
+      (subst (IsMove (triangulation arena (source_of arena m)) (triangulation arena (target_of arena m))) (sym is_step)
+      move))

@@ -19,7 +19,8 @@ use Rattle.free_groupoid.proofs.Nodes.{still_reached, missing, missing-new}
 use Rattle.free_groupoid.proofs.Forests.{IsForest}
 use Rattle.free_groupoid.proofs.Sprouts.{IsOpen}
 use Rattle.free_groupoid.proofs.Additions.{sprouted_forest}
-use Rattle.free_groupoid.proofs.NodeTurns.{IsBeyond, IsClosed, IsGrowing, IsTurning, closed_more, beyond_more, turn_past}
+use Rattle.free_groupoid.proofs.NodeTurns.{IsBeyond, IsClosed, IsGrowing, IsTurning, closed_more, beyond_more}
+use Rattle.free_groupoid.proofs.NodeTurns.{turn_past}
 
 module _ (triples : List (List ℤ)) (glue : Glued triples) (r bound : ℕ) (n : Node) (done : List Node) where
   -- ---- a side whose other triangle is new

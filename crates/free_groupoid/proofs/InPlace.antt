@@ -1,7 +1,9 @@
 -- The loop that reduces a word in place: the letters below `top` are reduced, and with those from `i` on they have the
 -- reduction of the whole word.
-use Rattle.std.proofs.Common.{ℕ, ℤ, List, [], ◌∷◌, ◌++◌, ◌≡◌, ◌≢◌, ◌+◌, ◌-◌, ◌<◌, ◌≤◌, refl, sym, ◌∙◌, ap, subst, append_assoc, arith, length, take, drop, set, get_or}
-use Rattle.std.proofs.lemmas.List.{append-nil, take_all, take_more, take_more_set, drop_more, drop-set-lt, drop_all, length-set}
+use Rattle.std.proofs.Common.{ℕ, ℤ, List, [], ◌∷◌, ◌++◌, ◌≡◌, ◌≢◌, ◌+◌, ◌-◌, ◌<◌, ◌≤◌, refl, sym, ◌∙◌, ap, subst}
+use Rattle.std.proofs.Common.{append_assoc, arith, length, take, drop, set, get_or}
+use Rattle.std.proofs.lemmas.List.{append-nil, take_all, take_more, take_more_set, drop_more, drop-set-lt, drop_all}
+use Rattle.std.proofs.lemmas.List.{length-set}
 use Rattle.ideal_tri.specs.Labels.{inverse}
 use Rattle.ideal_tri.specs.Words.{IsReduced, reduce}
 use Rattle.ideal_tri.specs.WordLaws.{ReductionLaws}
@@ -31,7 +33,8 @@ next_letter : (now : List ℤ) (i : ℕ) (x : ℤ) → i < length now → x ≡ 
 next_letter now i x inside is_x = drop_more now i x inside ∙ ap (λ (z : ℤ). z ∷ drop (i + 1) now) (sym is_x)
 
 -- the next letter x cancels the last one that was kept
-pub cancelled : ReductionLaws → (start now : List ℤ) (top i : ℕ) (x y : ℤ) → IsReducedUpTo start now top i → 0 < top → i < length now
+pub cancelled : ReductionLaws → (start now : List ℤ) (top i : ℕ) (x y : ℤ) → IsReducedUpTo start now top i → 0 < top
+    → i < length now
     → x ≡ get_or now i x → y ≡ get_or now (top - 1) y → y ≡ inverse x → IsReducedUpTo start now (top - 1) (i + 1)
 cancelled r start now top i x y h above inside is_x is_y opposite =
     let within : top ≤ i = h.within in
@@ -71,7 +74,8 @@ pushed start now top i x h inside is_x reduced =
     }
 
 -- no letter was kept before x
-pub pushed_first : (start now : List ℤ) (top i : ℕ) (x : ℤ) → IsReducedUpTo start now top i → i < length now → x ≡ get_or now i x
+pub pushed_first : (start now : List ℤ) (top i : ℕ) (x : ℤ) → IsReducedUpTo start now top i → i < length now
+    → x ≡ get_or now i x
     → top ≡ 0 → IsReducedUpTo start (set now top x) (top + 1) (i + 1)
 pushed_first start now top i x h inside is_x none =
     pushed start now top i x h inside is_x
@@ -79,7 +83,8 @@ pushed_first start now top i x h inside is_x none =
 
 -- the last letter y that was kept does not cancel x
 pub pushed_on : (start now : List ℤ) (top i : ℕ) (x y : ℤ) → IsReducedUpTo start now top i → 0 < top → i < length now
-    → x ≡ get_or now i x → y ≡ get_or now (top - 1) y → y ≢ inverse x → IsReducedUpTo start (set now top x) (top + 1) (i + 1)
+    → x ≡ get_or now i x → y ≡ get_or now (top - 1) y → y ≢ inverse x
+    → IsReducedUpTo start (set now top x) (top + 1) (i + 1)
 pushed_on start now top i x y h above inside is_x is_y apart =
     let kept : take top now ≡ take (top - 1) now ++ (y ∷ []) = last_kept start now top i y h above inside is_y in
     pushed start now top i x h inside is_x
@@ -87,7 +92,8 @@ pushed_on start now top i x y h above inside is_x is_y apart =
     (IsReduced-append_letter (take (top - 1) now) y x (subst IsReduced kept h.reduced) apart))
 
 -- all letters were read
-pub at_end : ReductionLaws → (start now : List ℤ) (top i : ℕ) → IsReducedUpTo start now top i → length start ≤ i → take top now ≡ reduce start
+pub at_end : ReductionLaws → (start now : List ℤ) (top i : ℕ) → IsReducedUpTo start now top i → length start ≤ i
+    → take top now ≡ reduce start
 at_end r start now top i h all =
     let same : length now ≡ length start = h.same_length in
     sym (r.fixed (take top now) h.reduced)
@@ -98,14 +104,16 @@ at_end r start now top i h all =
 -- ---- one letter behind a reduced word
 
 -- the last letter y of a word
-split_last : (w : List ℤ) (n : ℕ) (y : ℤ) → n ≡ length w → 0 < n → y ≡ get_or w (n - 1) y → w ≡ take (n - 1) w ++ (y ∷ [])
+split_last : (w : List ℤ) (n : ℕ) (y : ℤ) → n ≡ length w → 0 < n → y ≡ get_or w (n - 1) y
+    → w ≡ take (n - 1) w ++ (y ∷ [])
 split_last w n y is_n some is_y =
     sym (take_all n w (omega arith))
     ∙ ap (λ (k : ℕ). take k w) (let same : n ≡ (n - 1) + 1 = omega arith in same)
     ∙ take_more w (n - 1) y (omega arith)
     ∙ ap (λ (z : ℤ). take (n - 1) w ++ (z ∷ [])) (sym is_y)
 
-pub push_cancels : ReductionLaws → (w : List ℤ) (n : ℕ) (x y : ℤ) → IsReduced w → n ≡ length w → 0 < n → y ≡ get_or w (n - 1) y → y ≡ inverse x
+pub push_cancels : ReductionLaws → (w : List ℤ) (n : ℕ) (x y : ℤ) → IsReduced w → n ≡ length w → 0 < n
+    → y ≡ get_or w (n - 1) y → y ≡ inverse x
     → take (n - 1) w ≡ reduce (w ++ (x ∷ []))
 push_cancels r w n x y h is_n some is_y opposite =
     let split : w ≡ take (n - 1) w ++ (y ∷ []) = split_last w n y is_n some is_y in
@@ -121,7 +129,8 @@ pub push_first : ReductionLaws → (w : List ℤ) (x : ℤ) → length w ≡ 0 �
 push_first r [] x none = refl
 push_first r (y ∷ w) x none = absurd (omega arith)
 
-pub push_on : ReductionLaws → (w : List ℤ) (n : ℕ) (x y : ℤ) → IsReduced w → n ≡ length w → 0 < n → y ≡ get_or w (n - 1) y → y ≢ inverse x
+pub push_on : ReductionLaws → (w : List ℤ) (n : ℕ) (x y : ℤ) → IsReduced w → n ≡ length w → 0 < n
+    → y ≡ get_or w (n - 1) y → y ≢ inverse x
     → w ++ (x ∷ []) ≡ reduce (w ++ (x ∷ []))
 push_on r w n x y h is_n some is_y apart =
     let split : w ≡ take (n - 1) w ++ (y ∷ []) = split_last w n y is_n some is_y in

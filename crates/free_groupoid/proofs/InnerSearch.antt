@@ -1,5 +1,6 @@
 -- The search for the first test walk that a map moves, and what follows where there is none.
-use Rattle.std.proofs.Common.{ℕ, suc, ℤ, List, [], ◌∷◌, ◌++◌, ◌≡◌, ◌<◌, refl, sym, ◌∙◌, ap, subst, append_assoc, append-nil, arith, length, length-append, map, rules}
+use Rattle.std.proofs.Common.{ℕ, suc, ℤ, List, [], ◌∷◌, ◌++◌, ◌≡◌, ◌<◌, refl, sym, ◌∙◌, ap, subst, append_assoc}
+use Rattle.std.proofs.Common.{append-nil, arith, length, length-append, map, rules}
 use Rattle.std.proofs.Common.{take, get_or, Vec}
 use Rattle.std.specs.Global.{Global}
 use Rattle.std.specs.Vec.Iter.{into_iter_len, into_iter_items}
@@ -40,7 +41,8 @@ pub record IsSearching (triples : List (List ℤ)) (f : GroupoidMap) (left : Lis
   pub loops : All (IsReducedLoop triples) (words_of left)
 
 module _ (triples : List (List ℤ)) (f : GroupoidMap) where
-  pub search_all : (left : List (Vec ℤ Global)) → words_of left ≡ test_walks triples → All (IsReducedLoop triples) (test_walks triples)
+  pub search_all : (left : List (Vec ℤ Global)) → words_of left ≡ test_walks triples
+      → All (IsReducedLoop triples) (test_walks triples)
       → IsSearching triples f left
   search_all left words loops = record {
     seen = [];
@@ -50,11 +52,14 @@ module _ (triples : List (List ℤ)) (f : GroupoidMap) where
   }
 
   -- the word that is next
-  pub next_loop : (left : List (Vec ℤ Global)) (word : Vec ℤ Global) (rest : List (Vec ℤ Global)) → IsSearching triples f left → left ≡ word ∷ rest
+  pub next_loop : (left : List (Vec ℤ Global)) (word : Vec ℤ Global) (rest : List (Vec ℤ Global))
+      → IsSearching triples f left → left ≡ word ∷ rest
       → IsReducedLoop triples word.items
-  next_loop left word rest h is_left = subst (λ (vs : List (Vec ℤ Global)). All (IsReducedLoop triples) (words_of vs)) is_left h.loops 0 [] (omega arith)
+  next_loop left word rest h is_left = subst (λ (vs : List (Vec ℤ Global)). All (IsReducedLoop triples) (words_of vs))
+      is_left h.loops 0 [] (omega arith)
 
-  pub search_on : (left : List (Vec ℤ Global)) (word : Vec ℤ Global) (rest : List (Vec ℤ Global)) → IsSearching triples f left → left ≡ word ∷ rest
+  pub search_on : (left : List (Vec ℤ Global)) (word : Vec ℤ Global) (rest : List (Vec ℤ Global))
+      → IsSearching triples f left → left ≡ word ∷ rest
       → IsKept (substitution f.images) word.items → IsSearching triples f rest
   search_on left word rest h is_left kept =
       let now = subst (IsSearching triples f) is_left h in
@@ -65,7 +70,8 @@ module _ (triples : List (List ℤ)) (f : GroupoidMap) where
         loops = λ k d inside. now.loops (suc k) d (omega arith);
       }
 
-  pub search_done : (left : List (Vec ℤ Global)) → IsSearching triples f left → left ≡ [] → All (IsKept (substitution f.images)) (test_walks triples)
+  pub search_done : (left : List (Vec ℤ Global)) → IsSearching triples f left → left ≡ []
+      → All (IsKept (substitution f.images)) (test_walks triples)
   search_done left h none =
       let now = subst (IsSearching triples f) none h in
       subst (All (IsKept (substitution f.images))) (sym (append-nil now.seen) ∙ now.order) now.kept
@@ -75,42 +81,55 @@ module _ (triples : List (List ℤ)) (f : GroupoidMap) where
   pub self_map : IsSelfMap triples f → IsMap triples triples (substitution f.images) (vertex_image f)
   self_map h =
       subst (λ (ts : List (List ℤ)). IsMap triples ts (substitution f.images) (vertex_image f)) h.target
-      (subst (λ (ts : List (List ℤ)). IsMap ts (triangulation h.arena f.target) (substitution f.images) (vertex_image f)) h.source h.map.maps)
+      (subst (λ (ts : List (List ℤ)). IsMap ts (triangulation h.arena f.target) (substitution f.images) (vertex_image
+      f)) h.source h.map.maps)
 
   pub loop_below : (w : List ℤ) → IsSelfMap triples f → IsReducedLoop triples w → IsBelow (length f.images) w
   loop_below [] h none = absurd none
   loop_below (x ∷ w) h loops =
-      labels_below triples f (x ∷ w) h (walk_labels triples (triangle_of triples x) (triangle_of triples x) (x ∷ w) loops.0)
+      labels_below triples f (x ∷ w) h (walk_labels triples (triangle_of triples x) (triangle_of triples x) (x ∷ w)
+      loops.0)
 
-  moved_here : InnerLaws → IsTriangulation triples → IsSelfMap triples f → (word : Vec ℤ Global) (rest : List (Vec ℤ Global)) (w : DualWalk)
+  moved_here : InnerLaws → IsTriangulation triples → IsSelfMap triples f
+      → (word : Vec ℤ Global) (rest : List (Vec ℤ Global)) (w : DualWalk)
       → IsSearching triples f (word ∷ rest) → ¬ IsKept (substitution f.images) word.items
       → w ≡ walk_of_letters triples word.items → IsFirstMoved triples f w
   moved_here laws tri self word rest w h moved is_w =
       let here : get_or (test_walks triples) (length h.seen) [] ≡ word.items =
-      ap (λ (ws : List (List ℤ)). get_or ws (length h.seen) []) (sym h.order) ∙ get_or_at h.seen word.items (words_of rest) [] (length h.seen) refl in
+      ap (λ (ws : List (List ℤ)). get_or ws (length h.seen) []) (sym h.order)
+      ∙ get_or_at h.seen word.items (words_of rest) [] (length h.seen) refl in
       let within : length h.seen < length (test_walks triples) =
-      subst (λ (ws : List (List ℤ)). length h.seen < length ws) h.order (omega (arith, length-append h.seen (word.items ∷ words_of rest))) in
+      subst (λ (ws : List (List ℤ)). length h.seen < length ws) h.order (omega (
+        arith,
+        length-append h.seen (word.items
+            ∷ words_of rest),
+      )) in
       record {
         place = length h.seen;
         within = within;
         walk = is_w ∙ ap (walk_of_letters triples) (sym here);
         moved = subst (λ (v : DualWalk). ¬ IsKept (substitution f.images) v.letters) (sym is_w) moved;
         before = subst (All (IsKept (substitution f.images)))
-            (sym (ap (take (length h.seen)) (sym h.order) ∙ take_at h.seen (word.items ∷ words_of rest) (length h.seen) refl)) h.kept;
+            (sym (ap (take (length h.seen)) (sym h.order)
+            ∙ take_at h.seen (word.items ∷ words_of rest) (length h.seen) refl)) h.kept;
         never = λ paths inner. moved
             (subst (IsKept (substitution f.images)) here
-            (laws.kept triples (substitution f.images) (vertex_image f) paths tri (self_map self) inner (length h.seen) [] within));
+            (laws.kept triples (substitution f.images) (vertex_image f) paths tri (self_map self) inner (length h.seen)
+            [] within));
       }
 
-  pub moved_first : InnerLaws → IsTriangulation triples → IsSelfMap triples f → (left : List (Vec ℤ Global)) (word : Vec ℤ Global)
-      (rest : List (Vec ℤ Global)) (w : DualWalk) → IsSearching triples f left → left ≡ word ∷ rest → ¬ IsKept (substitution f.images) word.items
+  pub moved_first : InnerLaws → IsTriangulation triples → IsSelfMap triples f
+      → (left : List (Vec ℤ Global)) (word : Vec ℤ Global)
+      (rest : List (Vec ℤ Global)) (w : DualWalk) → IsSearching triples f left → left ≡ word ∷ rest
+      → ¬ IsKept (substitution f.images) word.items
       → w ≡ walk_of_letters triples word.items → IsFirstMoved triples f w
   moved_first laws tri self left word rest w h is_left moved is_w =
       moved_here laws tri self word rest w (subst (IsSearching triples f) is_left h) moved is_w
 
   -- ---- the walks, where there are some
 
-  module _ (laws : InnerLaws) (words : WordLaws) (labels : LabelLaws) (surface : SurfaceLaws) (tri : IsTriangulation triples) (self : IsSelfMap triples f)
+  module _ (laws : InnerLaws) (words : WordLaws) (labels : LabelLaws) (surface : SurfaceLaws) (tri : IsTriangulation
+      triples) (self : IsSelfMap triples f)
       (kept : All (IsKept (substitution f.images)) (test_walks triples)) (paths : List DualWalk)
       (is_paths : paths ≡ map (path_from triples f) (range_with_len 0 (length triples))) where
     path_of : ℕ → List ℤ
@@ -118,9 +137,11 @@ module _ (triples : List (List ℤ)) (f : GroupoidMap) where
 
     path_at : (t : ℕ) → t < length triples → walk_at paths t ≡ path_from triples f t
     path_at t inside = ap (λ (ws : List DualWalk). walk_at ws t) is_paths
-        ∙ get_or-map-range_with_len (path_from triples f) 0 (length triples) t t (record { start = 0; letters = [] }) inside (omega arith)
+        ∙ get_or-map-range_with_len (path_from triples f) 0 (length triples) t t (record { start = 0; letters = [] })
+        inside (omega arith)
 
-    letters_at : (t : ℕ) → t < length triples → (walk_at paths t).letters ≡ inner_path triples (substitution f.images) (vertex_image f) t
+    letters_at : (t : ℕ) → t < length triples → (walk_at paths t).letters
+        ≡ inner_path triples (substitution f.images) (vertex_image f) t
     letters_at t inside = ap (λ (w : DualWalk). w.letters) (path_at t inside)
 
     computed : IsInnerBy triples f (inner_path triples (substitution f.images) (vertex_image f))
@@ -129,10 +150,12 @@ module _ (triples : List (List ℤ)) (f : GroupoidMap) where
     inner_by : IsInnerBy triples f (λ t. (walk_at paths t).letters)
     inner_by = record {
       walks = λ t inside.
-          subst (λ (w : List ℤ). IsWalk triples t w (vertex_image f t)) (sym (letters_at t inside)) (computed.walks t inside);
+          subst (λ (w : List ℤ). IsWalk triples t w (vertex_image f t)) (sym (letters_at t inside)) (computed.walks t
+          inside);
       equations = λ x label.
           let here : triangle_of triples x < length triples = (surface.triangles triples tri).triangle x label in
-          let there : triangle_of triples (inverse x) < length triples = (surface.triangles triples tri).triangle (inverse x) (labels.label triples x label) in
+          let there : triangle_of triples (inverse x) < length triples = (surface.triangles triples tri).triangle
+          (inverse x) (labels.label triples x label) in
           ap (λ (w : List ℤ). reduce (w ++ substitution f.images x)) (letters_at (triangle_of triples x) here)
           ∙ computed.equations x label
           ∙ ap (λ (w : List ℤ). reduce (x ∷ w)) (sym (letters_at (triangle_of triples (inverse x)) there));
@@ -141,7 +164,8 @@ module _ (triples : List (List ℤ)) (f : GroupoidMap) where
     reduced_at : (t : ℕ) → t < length triples → IsReduced (walk_at paths t).letters
     reduced_at t inside = subst IsReduced (sym (letters_at t inside))
         (words.reduction.is_reduced (inverse_word (tree_walk triples t)
-        ++ (root_path triples (substitution f.images) (vertex_image f) (root_of triples t) ++ flat_map (substitution f.images) (tree_walk triples t))))
+        ++ (root_path triples (substitution f.images) (vertex_image f) (root_of triples t) ++ flat_map (substitution
+        f.images) (tree_walk triples t))))
 
     pub are_paths : AreInnerPaths triples f paths
     are_paths = record {
@@ -150,6 +174,7 @@ module _ (triples : List (List ℤ)) (f : GroupoidMap) where
       reduced = reduced_at;
       inner = inner_by;
       only = λ others inner t inside.
-          laws.only triples (substitution f.images) (vertex_image f) others (λ s. (walk_at paths s).letters) tri inner inner_by t inside
+          laws.only triples (substitution f.images) (vertex_image f) others (λ s. (walk_at paths s).letters) tri inner
+          inner_by t inside
           ∙ words.reduction.fixed (walk_at paths t).letters (reduced_at t inside);
     }

@@ -1,6 +1,7 @@
--- A word under a move, letter by letter. Of a relabelling the images of the first n edges count, and each letter is of one of
--- them.
-use Rattle.std.proofs.Common.{ℕ, ℤ, List, [], ◌∷◌, ◌++◌, ◌≡◌, ◌+◌, ◌<◌, ◌≤◌, refl, sym, ◌∙◌, ap, subst, length, map, take, get_or, Vec}
+-- A word under a move, letter by letter. Of a relabelling the images of the first n edges count, and each letter is of
+-- one of them.
+use Rattle.std.proofs.Common.{ℕ, ℤ, List, [], ◌∷◌, ◌++◌, ◌≡◌, ◌+◌, ◌<◌, ◌≤◌, refl, sym, ◌∙◌, ap, subst, length, map}
+use Rattle.std.proofs.Common.{take, get_or, Vec}
 use Rattle.std.specs.Global.{Global}
 use Rattle.std.specs.List.{All, flat_map}
 use Rattle.std.proofs.lemmas.List.{take_all}
@@ -22,10 +23,12 @@ pub record IsMovedUpTo (step : Step) (w moved : List ℤ) (i : ℕ) : Type 0 whe
 pub moved_none : (step : Step) (w moved : List ℤ) → moved ≡ [] → IsMovedUpTo step w moved 0
 moved_none step w moved e = record { value = λ n below. record { value = e } }
 
-pub moved_reduced : ReductionLaws → (step : Step) (w moved : List ℤ) (i n : ℕ) → IsMovedUpTo step w moved i → IsBelow n w → IsReduced moved
+pub moved_reduced : ReductionLaws → (step : Step) (w moved : List ℤ) (i n : ℕ) → IsMovedUpTo step w moved i
+    → IsBelow n w → IsReduced moved
 moved_reduced r step w moved i n h below = is_reduced r _ _ (h.value n below)
 
-pub moved_more : ReductionLaws → (step : Step) (w moved new : List ℤ) (i : ℕ) (x : ℤ) → IsMovedUpTo step w moved i → i < length w
+pub moved_more : ReductionLaws → (step : Step) (w moved new : List ℤ) (i : ℕ) (x : ℤ) → IsMovedUpTo step w moved i
+    → i < length w
     → x ≡ get_or w i x → ((n : ℕ) → edge_of x < n → new ≡ reduce (moved ++ image_of_letter (move_of n step) x))
     → IsMovedUpTo step w new (i + 1)
 moved_more r step w moved new i x h inside is_x pushed = record {
@@ -51,9 +54,11 @@ pub record AreMovedUpTo (step : Step) (vectors made : List (Vec ℤ Global)) (i 
 pub words_none : (step : Step) (vectors made : List (Vec ℤ Global)) → made ≡ [] → AreMovedUpTo step vectors made 0
 words_none step vectors made e = record { value = λ n below. ap words_of e }
 
-pub words_more : (step : Step) (vectors made new : List (Vec ℤ Global)) (word v : Vec ℤ Global) (i : ℕ) → AreMovedUpTo step vectors made i
+pub words_more : (step : Step) (vectors made new : List (Vec ℤ Global)) (word v : Vec ℤ Global) (i : ℕ)
+    → AreMovedUpTo step vectors made i
     → i < length vectors → word ≡ get_or vectors i word → new ≡ made ++ (v ∷ [])
-    → ((n : ℕ) → IsBelow n word.items → v.items ≡ reduced_image (image_of_letter (move_of n step)) word.items) → AreMovedUpTo step vectors new (i + 1)
+    → ((n : ℕ) → IsBelow n word.items → v.items ≡ reduced_image (image_of_letter (move_of n step)) word.items)
+    → AreMovedUpTo step vectors new (i + 1)
 words_more step vectors made new word v i h inside is_word is_new is_v = record {
   value = λ n below.
       ap words_of is_new
@@ -61,7 +66,9 @@ words_more step vectors made new word v i h inside is_word is_new is_v = record 
       (is_v n (held_by_word (IsBelow n) vectors word i below inside is_word)) (h.value n below);
 }
 
-pub words_all : (step : Step) (vectors made : List (Vec ℤ Global)) (i n : ℕ) → AreMovedUpTo step vectors made i → length vectors ≤ i
-    → All (IsBelow n) (words_of vectors) → words_of made ≡ map (reduced_image (image_of_letter (move_of n step))) (words_of vectors)
+pub words_all : (step : Step) (vectors made : List (Vec ℤ Global)) (i n : ℕ) → AreMovedUpTo step vectors made i
+    → length vectors ≤ i
+    → All (IsBelow n) (words_of vectors) → words_of made
+    ≡ map (reduced_image (image_of_letter (move_of n step))) (words_of vectors)
 words_all step vectors made i n h all below =
     all_words (reduced_image (image_of_letter (move_of n step))) vectors made i all (h.value n below)

@@ -1,5 +1,6 @@
 -- When one word is a rotation of another: it begins at some place of it.
-use Rattle.std.proofs.Common.{ℕ, ℤ, List, [], ◌∷◌, ◌++◌, ◌≡◌, ◌+◌, ◌-◌, ◌<◌, refl, sym, ◌∙◌, ap, subst, arith, length, take, drop, length-append}
+use Rattle.std.proofs.Common.{ℕ, ℤ, List, [], ◌∷◌, ◌++◌, ◌≡◌, ◌+◌, ◌-◌, ◌<◌, refl, sym, ◌∙◌, ap, subst, arith, length}
+use Rattle.std.proofs.Common.{take, drop, length-append}
 use Rattle.std.proofs.lemmas.List.{append-nil, take-append-drop, take_at, drop_at, take_all, drop_all, take_rest}
 use Rattle.ideal_tri.specs.Words.{IsRotation}
 
@@ -58,7 +59,8 @@ length_of_rotation v w r = let (p, q, v_is, w_is) = r in
 pub front_as_read : (v w : List ℤ) (j : ℕ) → BeginsAt v w j → take (length v - j) (drop j v) ≡ take (length v - j) w
 front_as_read v w j h = take_rest v j ∙ h.front
 
-pub back_as_read : (v w : List ℤ) (j : ℕ) → BeginsAt v w j → take j v ≡ take (length w - (length v - j)) (drop (length v - j) w)
+pub back_as_read : (v w : List ℤ) (j : ℕ) → BeginsAt v w j → take j v
+    ≡ take (length w - (length v - j)) (drop (length v - j) w)
 back_as_read v w j h = h.back ∙ sym (take_rest w (length v - j))
 
 pub place_from_reads : (v w : List ℤ) (j : ℕ) → take (length v - j) (drop j v) ≡ take (length v - j) w

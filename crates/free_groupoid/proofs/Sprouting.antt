@@ -1,14 +1,17 @@
 -- The forest, as it grows in one list: the sides of a triangle tried one after another, the nodes one after another,
 -- and the triangles one after another.
 use Rattle.std.proofs.Common.{ℕ, zero, suc, ℤ, pos, negsuc, true, false, List, [], ◌∷◌, ◌++◌, ◌≡◌, ◌<◌, ◌≤◌, ◌+◌, ◌-◌}
-use Rattle.std.proofs.Common.{inl, inr, refl, sym, ◌∙◌, ap, append_assoc, append-nil, arith, length, take, drop, get_or, nat_eq}
-use Rattle.std.proofs.lemmas.List.{take-append-drop, take_at, drop_at, take_all, drop_all, drop_more, length-take-le, length_push, get_or_at}
+use Rattle.std.proofs.Common.{inl, inr, refl, sym, ◌∙◌, ap, append_assoc, append-nil, arith, length, take, drop, get_or}
+use Rattle.std.proofs.Common.{nat_eq}
+use Rattle.std.proofs.lemmas.List.{take-append-drop, take_at, drop_at, take_all, drop_all, drop_more, length-take-le}
+use Rattle.std.proofs.lemmas.List.{length_push, get_or_at}
 use Rattle.std.specs.List.{flat_map, filter, range_with_len}
 use Rattle.std.proofs.lemmas.Bool.{cases_Bool}
 use Rattle.ideal_tri.specs.Labels.{inverse, edge_of}
 use Rattle.ideal_tri.specs.Words.{last_of}
 use Rattle.ideal_tri.specs.Triangulations.{edge_count, triangle_of}
-use Rattle.free_groupoid.specs.TestWalks.{Node, has_node, node_beyond, label_order, sides_in_order, sprout, grow, plant, root_node, forest, ends_across}
+use Rattle.free_groupoid.specs.TestWalks.{Node, has_node, node_beyond, label_order, sides_in_order, sprout, grow, plant}
+use Rattle.free_groupoid.specs.TestWalks.{root_node, forest, ends_across}
 use Rattle.free_groupoid.specs.inside.Sprouting.{tried, tried_each}
 
 -- ---- sides
@@ -16,7 +19,8 @@ use Rattle.free_groupoid.specs.inside.Sprouting.{tried, tried_each}
 module _ (triples : List (List ℤ)) (n : Node) where
   -- to try the sides among these labels is to try each of the labels
   pub sprout_tried : (labels : List ℤ) (done todo : List Node)
-      → done ++ sprout triples n (filter (λ x. nat_eq (triangle_of triples x) n.triangle) labels) done todo ≡ tried_each triples n labels (done ++ todo)
+      → done ++ sprout triples n (filter (λ x. nat_eq (triangle_of triples x) n.triangle) labels) done todo
+      ≡ tried_each triples n labels (done ++ todo)
   sprout_tried [] done todo = refl
   sprout_tried (x ∷ labels) done todo =
       elim (cases_Bool (nat_eq (triangle_of triples x) n.triangle)) [
@@ -37,21 +41,25 @@ module _ (triples : List (List ℤ)) (n : Node) where
       tried_each triples n (flat_map (λ i. pos i ∷ (negsuc i ∷ [])) (range_with_len e (edge_count triples - e))) nodes
       ≡ tried_each triples n (label_order triples) old
 
-  pub trying_more : (old nodes between after : List Node) (e : ℕ) (m : Node) (x y : ℤ) → e < edge_count triples → IsTrying old e nodes
+  pub trying_more : (old nodes between after : List Node) (e : ℕ) (m : Node) (x y : ℤ) → e < edge_count triples
+      → IsTrying old e nodes
       → n ≡ m → x ≡ pos e → y ≡ inverse x → between ≡ tried triples m x nodes → after ≡ tried triples m y between
       → IsTrying old (e + 1) after
   trying_more old nodes between after e m x y inside so_far same is_x is_y is_between is_after =
       let left : edge_count triples - e ≡ suc (edge_count triples - (e + 1)) = omega arith in
       rw (is_after, is_between, is_y, is_x, ← same)
-      (ap (λ (i : ℕ). tried_each triples n (flat_map (λ i. pos i ∷ (negsuc i ∷ [])) (range_with_len e i)) nodes) (sym left) ∙ so_far)
+      (ap (λ (i : ℕ). tried_each triples n (flat_map (λ i. pos i ∷ (negsuc i ∷ [])) (range_with_len e i)) nodes) (sym
+      left) ∙ so_far)
 
-  pub tried_all : (old nodes done todo : List Node) (e : ℕ) (m : Node) → edge_count triples ≤ e → IsTrying old e nodes → n ≡ m
+  pub tried_all : (old nodes done todo : List Node) (e : ℕ) (m : Node) → edge_count triples ≤ e
+      → IsTrying old e nodes → n ≡ m
       → old ≡ done ++ m ∷ todo
       → nodes ≡ (done ++ m ∷ []) ++ sprout triples m (sides_in_order triples m.triangle) (done ++ m ∷ []) todo
   tried_all old nodes done todo e m all so_far same is_old =
       let none : edge_count triples - e ≡ 0 = omega arith in
       rw (← same)
-      (ap (λ (i : ℕ). tried_each triples n (flat_map (λ i. pos i ∷ (negsuc i ∷ [])) (range_with_len e i)) nodes) (sym none)
+      (ap (λ (i : ℕ). tried_each triples n (flat_map (λ i. pos i ∷ (negsuc i ∷ [])) (range_with_len e i)) nodes) (sym
+      none)
       ∙ so_far
       ∙ ap (tried_each triples n (label_order triples))
       (is_old ∙ ap (λ (k : Node). done ++ k ∷ todo) (sym same) ∙ sym (append_assoc done (n ∷ []) todo))
@@ -70,11 +78,14 @@ module _ (triples : List (List ℤ)) where
   grown_none old t =
       let here : length old ≡ length old + 0 = omega arith in
       let left : length triples - 0 ≡ length triples = omega arith in
-      ap (λ (b : ℕ). grow triples b (take (length old + 0) (old ++ root_node t ∷ [])) (drop (length old + 0) (old ++ root_node t ∷ []))) left
-      ∙ ap (λ (ns : List Node). grow triples (length triples) ns (drop (length old + 0) (old ++ root_node t ∷ []))) (take_at old (root_node t ∷ []) (length old + 0) here)
+      ap (λ (b : ℕ). grow triples b (take (length old + 0) (old ++ root_node t ∷ [])) (drop (length old + 0) (old ++
+      root_node t ∷ []))) left
+      ∙ ap (λ (ns : List Node). grow triples (length triples) ns (drop (length old + 0) (old ++ root_node t ∷ [])))
+      (take_at old (root_node t ∷ []) (length old + 0) here)
       ∙ ap (grow triples (length triples) old) (drop_at old (root_node t ∷ []) (length old + 0) here)
 
-  pub grown_more : (old nodes new : List Node) (t k : ℕ) → IsGrown old t nodes k → k < length triples → length old + k < length nodes
+  pub grown_more : (old nodes new : List Node) (t k : ℕ) → IsGrown old t nodes k → k < length triples
+      → length old + k < length nodes
       → ((done todo : List Node) (n : Node) → nodes ≡ done ++ n ∷ todo → length done ≡ length old + k
       → new ≡ (done ++ n ∷ []) ++ sprout triples n (sides_in_order triples n.triangle) (done ++ n ∷ []) todo)
       → IsGrown old t new (k + 1)
@@ -85,16 +96,21 @@ module _ (triples : List (List ℤ)) where
       let todo : List Node = drop (length old + k + 1) nodes in
       let rest : drop i nodes ≡ n ∷ todo = drop_more nodes (length old + k) (root_node t) there in
       let long : length done ≡ i = length-take-le (length old + k) nodes (omega arith) in
-      let is_new : new ≡ (done ++ n ∷ []) ++ sprout triples n (sides_in_order triples n.triangle) (done ++ n ∷ []) todo =
+      let is_new : new ≡ (done ++ n ∷ []) ++ sprout triples n (sides_in_order triples n.triangle) (done ++ n ∷ []) todo
+      =
       turned done todo n (sym (take-append-drop i nodes) ∙ ap (λ (ns : List Node). done ++ ns) rest) long in
       let place : length (done ++ n ∷ []) ≡ length old + (k + 1) = length_push done n ∙ omega arith in
       let left : length triples - k ≡ suc (length triples - (k + 1)) = omega arith in
-      ap (λ (ns : List Node). grow triples (length triples - (k + 1)) (take (length old + (k + 1)) ns) (drop (length old + (k + 1)) ns)) is_new
+      ap (λ (ns : List Node). grow triples (length triples - (k + 1)) (take (length old + (k + 1)) ns) (drop (length
+      old + (k + 1)) ns)) is_new
       ∙ ap (λ (ns : List Node). grow triples (length triples - (k + 1)) ns
-      (drop (length old + (k + 1)) ((done ++ n ∷ []) ++ sprout triples n (sides_in_order triples n.triangle) (done ++ n ∷ []) todo)))
-      (take_at (done ++ n ∷ []) (sprout triples n (sides_in_order triples n.triangle) (done ++ n ∷ []) todo) (length old + (k + 1)) place)
+      (drop (length old + (k + 1)) ((done ++ n ∷ []) ++ sprout triples n (sides_in_order triples n.triangle) (done ++ n
+      ∷ []) todo)))
+      (take_at (done ++ n ∷ []) (sprout triples n (sides_in_order triples n.triangle) (done ++ n ∷ []) todo) (length
+      old + (k + 1)) place)
       ∙ ap (grow triples (length triples - (k + 1)) (done ++ n ∷ []))
-      (drop_at (done ++ n ∷ []) (sprout triples n (sides_in_order triples n.triangle) (done ++ n ∷ []) todo) (length old + (k + 1)) place)
+      (drop_at (done ++ n ∷ []) (sprout triples n (sides_in_order triples n.triangle) (done ++ n ∷ []) todo) (length
+      old + (k + 1)) place)
       ∙ ap (λ (b : ℕ). grow triples b done (n ∷ todo)) (sym left)
       ∙ ap (grow triples (length triples - k) done) (sym rest)
       ∙ so_far
@@ -109,7 +125,8 @@ module _ (triples : List (List ℤ)) where
       ∙ ap (grow triples b nodes) (drop_all i nodes all)
       ∙ none_waits b nodes
 
-  pub grown_done : (old nodes : List Node) (t k : ℕ) → IsGrown old t nodes k → k < length triples → length nodes ≤ length old + k
+  pub grown_done : (old nodes : List Node) (t k : ℕ) → IsGrown old t nodes k → k < length triples
+      → length nodes ≤ length old + k
       → IsGrown old t nodes (k + 1)
   grown_done old nodes t k so_far inside all =
       let left : length triples - k ≡ suc (length triples - (k + 1)) = omega arith in
@@ -132,14 +149,18 @@ last_read : (x : ℤ) (w : List ℤ) (d : ℤ) → get_or (x ∷ w) (length w) d
 last_read x [] d = refl
 last_read x (y ∷ w) d = last_read y w d
 
-pub ends_across_last : (e : ℕ) (w : List ℤ) (x : ℤ) → 0 < length w → x ≡ get_or w (length w - 1) x → nat_eq (edge_of x) e ≡ ends_across e w
+pub ends_across_last : (e : ℕ) (w : List ℤ) (x : ℤ) → 0 < length w → x ≡ get_or w (length w - 1) x
+    → nat_eq (edge_of x) e ≡ ends_across e w
 ends_across_last e [] x some is_x = absurd (omega arith)
 ends_across_last e (y ∷ w) x some is_x = ap (λ (z : ℤ). nat_eq (edge_of z) e)
-    (is_x ∙ ap (λ (n : ℕ). get_or (y ∷ w) n x) (let place : length (y ∷ w) - 1 ≡ length w = omega arith in place) ∙ last_read y w x)
+    (is_x ∙ ap (λ (n : ℕ). get_or (y ∷ w) n x) (let place : length (y ∷ w) - 1 ≡ length w = omega arith in place)
+    ∙ last_read y w x)
 
 -- the node that was read
-pub node_there : (nodes done todo : List Node) (i : ℕ) (m n : Node) → nodes ≡ done ++ n ∷ todo → length done ≡ i → m ≡ get_or nodes i m → m ≡ n
-node_there nodes done todo i m n is_nodes here is_m = is_m ∙ ap (λ (ns : List Node). get_or ns i m) is_nodes ∙ get_or_at done n todo m i here
+pub node_there : (nodes done todo : List Node) (i : ℕ) (m n : Node) → nodes ≡ done ++ n ∷ todo → length done ≡ i
+    → m ≡ get_or nodes i m → m ≡ n
+node_there nodes done todo i m n is_nodes here is_m = is_m ∙ ap (λ (ns : List Node). get_or ns i m) is_nodes
+    ∙ get_or_at done n todo m i here
 
 -- ---- trees
 
@@ -156,13 +177,16 @@ module _ (triples : List (List ℤ)) where
       → new ≡ grow triples (length triples) nodes (root_node t ∷ []) → IsPlanted new (t + 1)
   planted_more nodes new t so_far inside fresh is_new =
       let left : length triples - t ≡ suc (length triples - (t + 1)) = omega arith in
-      let now : plant triples (range_with_len t (suc (length triples - (t + 1)))) nodes ≡ forest triples = ap (λ (b : ℕ). plant triples (range_with_len t b) nodes) (sym left) ∙ so_far in
+      let now : plant triples (range_with_len t (suc (length triples - (t + 1)))) nodes
+      ≡ forest triples = ap (λ (b : ℕ). plant triples (range_with_len t b) nodes) (sym left) ∙ so_far in
       rw is_new (rw fresh at now)
 
-  pub planted_past : (nodes : List Node) (t : ℕ) → IsPlanted nodes t → t < length triples → has_node nodes t ≡ true → IsPlanted nodes (t + 1)
+  pub planted_past : (nodes : List Node) (t : ℕ) → IsPlanted nodes t → t < length triples → has_node nodes t ≡ true
+      → IsPlanted nodes (t + 1)
   planted_past nodes t so_far inside reached =
       let left : length triples - t ≡ suc (length triples - (t + 1)) = omega arith in
-      let now : plant triples (range_with_len t (suc (length triples - (t + 1)))) nodes ≡ forest triples = ap (λ (b : ℕ). plant triples (range_with_len t b) nodes) (sym left) ∙ so_far in
+      let now : plant triples (range_with_len t (suc (length triples - (t + 1)))) nodes
+      ≡ forest triples = ap (λ (b : ℕ). plant triples (range_with_len t b) nodes) (sym left) ∙ so_far in
       rw reached at now
 
   pub planted_all : (nodes : List Node) (t : ℕ) → IsPlanted nodes t → length triples ≤ t → nodes ≡ forest triples

@@ -1,6 +1,7 @@
 -- A list of words in the place of letters: a substitution, and the same list with each word mapped and reduced is the
 -- substitution followed by the map. Two substitutions that agree on the letters of a word agree on the word.
-use Rattle.std.proofs.Common.{ℕ, zero, suc, ℤ, pos, negsuc, List, [], ◌∷◌, ◌++◌, ◌≡◌, ◌<◌, ◌≤◌, ◌⊎◌, inl, inr, refl, sym, ◌∙◌, ap, length, map, get_or}
+use Rattle.std.proofs.Common.{ℕ, zero, suc, ℤ, pos, negsuc, List, [], ◌∷◌, ◌++◌, ◌≡◌, ◌<◌, ◌≤◌, ◌⊎◌, inl, inr, refl}
+use Rattle.std.proofs.Common.{sym, ◌∙◌, ap, length, map, get_or}
 use Rattle.std.specs.List.{All, flat_map}
 use Rattle.std.proofs.lemmas.List.{get_or_past}
 use Rattle.std.proofs.lemmas.List.Elements.{All-head, All-tail, All-map}
@@ -18,7 +19,8 @@ substitution-odd i images (pos n) = refl
 substitution-odd i images (negsuc n) = sym (i.twice (get_or images n []))
 
 -- a word of a list that is mapped
-get_or-mapped : (f : List ℤ → List ℤ) (words : List (List ℤ)) (n : ℕ) → f [] ≡ [] → get_or (map f words) n [] ≡ f (get_or words n [])
+get_or-mapped : (f : List ℤ → List ℤ) (words : List (List ℤ)) (n : ℕ) → f [] ≡ []
+    → get_or (map f words) n [] ≡ f (get_or words n [])
 get_or-mapped f [] n e = sym e
 get_or-mapped f (w ∷ words) zero e = refl
 get_or-mapped f (w ∷ words) (suc n) e = get_or-mapped f words n e
@@ -33,24 +35,29 @@ substitution-mapped r s g images (negsuc n) odd =
 
 -- ---- reduced words
 
-pub AreReduced-mapped : ReductionLaws → (g : ℤ → List ℤ) (images : List (List ℤ)) → All IsReduced (map (reduced_image g) images)
+pub AreReduced-mapped : ReductionLaws → (g : ℤ → List ℤ) (images : List (List ℤ))
+    → All IsReduced (map (reduced_image g) images)
 AreReduced-mapped r g images =
     All-map IsReduced (reduced_image g) images (λ k d below. r.is_reduced (flat_map g (get_or images k d)))
 
-reduced_word : ReductionLaws → (words : List (List ℤ)) (n : ℕ) → All IsReduced words → reduce (get_or words n []) ≡ get_or words n []
+reduced_word : ReductionLaws → (words : List (List ℤ)) (n : ℕ) → All IsReduced words
+    → reduce (get_or words n []) ≡ get_or words n []
 reduced_word r words n all = at_place (cases_lt n (length words))
   where
     at_place : (n < length words) ⊎ (length words ≤ n) → reduce (get_or words n []) ≡ get_or words n []
     at_place (inl inside) = r.fixed (get_or words n []) (all n [] inside)
     at_place (inr past) = ap reduce (get_or_past words n [] past) ∙ sym (get_or_past words n [] past)
 
-pub substitution-reduced : ReductionLaws → (images : List (List ℤ)) (x : ℤ) → All IsReduced images → reduce (substitution images x) ≡ substitution images x
+pub substitution-reduced : ReductionLaws → (images : List (List ℤ)) (x : ℤ) → All IsReduced images
+    → reduce (substitution images x) ≡ substitution images x
 substitution-reduced r images (pos n) all = reduced_word r images n all
-substitution-reduced r images (negsuc n) all = r.inverse (get_or images n []) ∙ ap inverse_word (reduced_word r images n all)
+substitution-reduced r images (negsuc n) all = r.inverse (get_or images n [])
+    ∙ ap inverse_word (reduced_word r images n all)
 
 -- ---- substitutions that agree
 
-pub flat_map-agree : (P : ℤ → Type 0) (f g : ℤ → List ℤ) (w : List ℤ) → All P w → ((x : ℤ) → P x → f x ≡ g x) → flat_map f w ≡ flat_map g w
+pub flat_map-agree : (P : ℤ → Type 0) (f g : ℤ → List ℤ) (w : List ℤ) → All P w → ((x : ℤ) → P x → f x ≡ g x)
+    → flat_map f w ≡ flat_map g w
 flat_map-agree P f g [] all same = refl
 flat_map-agree P f g (x ∷ w) all same =
     ap (λ (u : List ℤ). u ++ flat_map f w) (same x (All-head P x w all))

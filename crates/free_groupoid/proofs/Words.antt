@@ -17,14 +17,16 @@ IsReduced-front (x ∷ []) v h = tt
 IsReduced-front (x ∷ (y ∷ u)) v h = (h.0, IsReduced-front (y ∷ u) v h.1)
 
 -- a letter may follow a reduced word whose last letter is not its inverse
-pub IsReduced-append_letter : (u : List ℤ) (y x : ℤ) → IsReduced (u ++ (y ∷ [])) → y ≢ inverse x → IsReduced ((u ++ (y ∷ [])) ++ (x ∷ []))
+pub IsReduced-append_letter : (u : List ℤ) (y x : ℤ) → IsReduced (u ++ (y ∷ [])) → y ≢ inverse x
+    → IsReduced ((u ++ (y ∷ [])) ++ (x ∷ []))
 IsReduced-append_letter [] y x h n = (λ e. n (sym (inverse-inverse y) ∙ ap inverse (sym e)), tt)
 IsReduced-append_letter (z ∷ []) y x h n = (h.0, IsReduced-append_letter [] y x tt n)
 IsReduced-append_letter (z ∷ (z' ∷ u)) y x h n = (h.0, IsReduced-append_letter (z' ∷ u) y x h.1 n)
 
 -- ---- reductions of words that are put together
 
-pub reduce-pair : ReductionLaws → (u : List ℤ) (y : ℤ) (v : List ℤ) → reduce (u ++ (y ∷ (inverse y ∷ v))) ≡ reduce (u ++ v)
+pub reduce-pair : ReductionLaws → (u : List ℤ) (y : ℤ) (v : List ℤ)
+    → reduce (u ++ (y ∷ (inverse y ∷ v))) ≡ reduce (u ++ v)
 reduce-pair r u y v = r.cancel u (y ∷ []) v
 
 -- a word may be reduced before another follows it

@@ -2,11 +2,13 @@
 use Rattle.std.specs.Prelude.{◌≡◌, ◌<◌, ℕ, ℤ, List, ◌++◌, length, map}
 use Rattle.ideal_tri.specs.Triangulations.{IsLabel}
 use Rattle.tri_atlas.specs.Maps.{IsOdd, after, image_of_letter, path_map}
-use Rattle.tri_atlas.specs.Arena.{Arena, MoveHandle, IsTriIn, IsMoveIn, IsArena, triangulation, source_of, step_of}
+use Rattle.tri_atlas.specs.Arena.{Arena, MoveHandle, IsTriIn, IsMoveIn, IsArena, triangulation}
+use Rattle.tri_atlas.specs.Arena.{source_of, step_of}
 use Rattle.tri_atlas.specs.Paths.{MovePath, IsPathIn, moves_of, triangle_along, inverse_path}
 use Rattle.free_groupoid.specs.Walks.{DualWalk, IsWalkOn}
 use Rattle.free_groupoid.specs.GroupoidMaps.{GroupoidMap, IsMapIn, substitution, vertex_image}
-use Rattle.free_groupoid.specs.GroupoidMaps.{identity_map, followed, followed_along, composed, image_walk}
+use Rattle.free_groupoid.specs.GroupoidMaps.{identity_map, followed, followed_along, composed}
+use Rattle.free_groupoid.specs.GroupoidMaps.{image_walk}
 
 -- the maps that the calls make are maps of the atlas
 pub record MakingLaws : Type 0 where

@@ -1,21 +1,26 @@
--- Maps of walks from one triangulation to another: a reduced walk for each label, and where each triangle goes.
-use Rattle.std.specs.Prelude.{◌≡◌, ◌<◌, ℕ, ℤ, pos, negsuc, List, [], ◌∷◌, length, map, slice_index, slice_index_or, All}
+-- Maps of walks from one triangulation to another: a reduced walk for each label, and where each
+-- triangle goes.
+use Rattle.std.specs.Prelude.{◌≡◌, ◌<◌, ℕ, ℤ, pos, negsuc, List, [], ◌∷◌, length, map, slice_index}
+use Rattle.std.specs.Prelude.{slice_index_or, All}
 use Rattle.std.specs.List.{flat_map, range_with_len}
 use Rattle.ideal_tri.specs.Words.{inverse_word, IsReduced, reduce}
 use Rattle.ideal_tri.specs.Triangulations.{edge_count, triangle_of}
 use Rattle.tri_atlas.specs.Moves.{triangle_image}
 use Rattle.tri_atlas.specs.Maps.{IsMap, image_of_letter, letters_below}
-use Rattle.tri_atlas.specs.Arena.{Arena, MoveHandle, IsTriIn, triangulation, source_of, target_of, step_of}
+use Rattle.tri_atlas.specs.Arena.{Arena, MoveHandle, IsTriIn, triangulation, source_of, target_of}
+use Rattle.tri_atlas.specs.Arena.{step_of}
 use Rattle.free_groupoid.specs.Walks.{DualWalk}
 
--- the numbers of the triangulations where it starts and ends, the images of the labels 0, 1, .., and those of the triangles
+-- the numbers of the triangulations where it starts and ends, the images of the labels 0, 1, ..,
+-- and those of the triangles
 pub record GroupoidMap : Type 0 where
   pub source : ℕ
   pub target : ℕ
   pub images : List (List ℤ)
   pub triangles : List ℕ
 
--- the word in the place of a letter, where those of the labels 0, 1, .. are listed: inverse letters get inverse words
+-- the word in the place of a letter, where those of the labels 0, 1, .. are listed: inverse letters
+-- get inverse words
 abbrev pub substitution : List (List ℤ) → ℤ → List ℤ
 substitution images (pos n) = slice_index_or images n []
 substitution images (negsuc n) = inverse_word (slice_index_or images n [])
@@ -39,7 +44,8 @@ pub record IsMapIn (arena : Arena) (f : GroupoidMap) : Type 0 where
   pub one_per_edge : length f.images ≡ edge_count (triangulation arena f.source)
   pub one_per_triangle : length f.triangles ≡ length (triangulation arena f.source)
   pub reduced : All IsReduced f.images
-  pub maps : IsMap (triangulation arena f.source) (triangulation arena f.target) (substitution f.images) (vertex_image f)
+  pub maps : IsMap (triangulation arena f.source) (triangulation arena f.target) (substitution
+      f.images) (vertex_image f)
 
 -- ---- the maps that the calls make
 
@@ -58,7 +64,8 @@ followed arena f m = record {
   source = f.source;
   target = target_of arena m;
   images = map (reduced_image (image_of_letter (step_of arena m))) f.images;
-  triangles = map (triangle_image (triangulation arena (source_of arena m)) (triangulation arena (target_of arena m)) (step_of arena m)) f.triangles;
+  triangles = map (triangle_image (triangulation arena (source_of arena m)) (triangulation arena
+      (target_of arena m)) (step_of arena m)) f.triangles;
 }
 
 -- the map, and then those of the moves, one after another
@@ -77,7 +84,11 @@ composed f g = record {
 
 -- the image of a walk, reduced
 abbrev pub image_walk : GroupoidMap → DualWalk → DualWalk
-image_walk f w = record { start = vertex_image f w.start; letters = reduced_image (substitution f.images) w.letters }
+image_walk f w = record {
+  start = vertex_image f w.start;
+  letters = reduced_image (substitution
+      f.images) w.letters;
+}
 
 -- ---- maps given by walks
 
@@ -90,8 +101,11 @@ map_of_walks source target walks triangles = record {
   triangles = triangles;
 }
 
--- the walks make a map with these images of the triangles: each starts at the image of the triangle of its label
-pub record AreImages (arena : Arena) (source target : ℕ) (walks : List DualWalk) (triangles : List ℕ) : Type 0 where
+-- the walks make a map with these images of the triangles: each starts at the image of the triangle
+-- of its label
+pub record AreImages (arena : Arena) (source target : ℕ) (walks : List DualWalk) (triangles : List
+    ℕ) : Type 0 where
   pub maps : IsMapIn arena (map_of_walks source target walks triangles)
   pub starts : (n : ℕ) → n < length walks
-      → slice_index (map (λ w. w.start) walks) n ≡ slice_index triangles (triangle_of (triangulation arena source) (pos n))
+      → slice_index (map (λ w. w.start) walks) n
+      ≡ slice_index triangles (triangle_of (triangulation arena source) (pos n))

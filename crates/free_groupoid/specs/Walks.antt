@@ -28,7 +28,8 @@ pub record IsFirstBreak (triples : List (List ℤ)) (w : DualWalk) (place : ℕ)
   pub within : place < length w.letters
   pub stand : ℕ
   pub before : IsWalk triples w.start (take place w.letters) stand
-  pub breaks : let x = slice_index_or w.letters place (pos 0) in ¬ (IsLabel triples x × (triangle_of triples x ≡ stand))
+  pub breaks : let x = slice_index_or w.letters place (pos 0) in ¬ (IsLabel triples x
+      × (triangle_of triples x ≡ stand))
 
 -- the walk without neighbours x, inverse x
 abbrev pub reduced_walk : DualWalk → DualWalk
@@ -43,7 +44,12 @@ start_of triples s (x ∷ letters) = triangle_of triples x
 abbrev pub walk_of_letters : List (List ℤ) → List ℤ → DualWalk
 walk_of_letters triples letters = record { start = start_of triples 0 letters; letters = letters }
 
--- the closed walk without such pairs, at its two ends too; it starts where the letters that are left start
+-- the closed walk without such pairs, at its two ends too; it starts where the letters that are
+-- left start
 abbrev pub cyclically_reduced_walk : List (List ℤ) → DualWalk → DualWalk
 cyclically_reduced_walk triples w =
-    record { start = start_of triples w.start (cyclic_reduce w.letters); letters = cyclic_reduce w.letters }
+    record {
+      start = start_of triples w.start (cyclic_reduce w.letters);
+      letters = cyclic_reduce
+          w.letters;
+    }

@@ -1,7 +1,10 @@
 //! The spanning forest of a triangulation: a tree for each component, grown breadth first.
 ghost use Rattle.std.specs.Prelude.{◌≡◌, ◌<◌, ◌++◌, ◌∷◌, [], List, length, IfOk, OnOk};
 ghost use Rattle.ideal_tri.specs.Triangulations.{IsLabel};
-ghost use Rattle.free_groupoid.specs.TestWalks.{Node, root_node, has_node, node_at, sides_in_order, sprout, grow, forest, ends_across, is_tree_edge, root_of, tree_walk, root_of_edge, outer_edges, edges_at, loop};
+ghost use Rattle.free_groupoid.specs.TestWalks.{Node, root_node, has_node, node_at, sides_in_order};
+ghost use Rattle.free_groupoid.specs.TestWalks.{sprout, grow, forest, ends_across, is_tree_edge};
+ghost use Rattle.free_groupoid.specs.TestWalks.{root_of, tree_walk, root_of_edge, outer_edges};
+ghost use Rattle.free_groupoid.specs.TestWalks.{edges_at, loop};
 ghost use Rattle.std.specs.List.{list_any};
 ghost use Rattle.free_groupoid.specs.inside.Sprouting.{tried};
 
@@ -125,9 +128,11 @@ fn has_node(nodes: &[Node], t: u32) -> bool
     false
 }
 
-/// Grows a tree from a triangle that is new. Each node has one turn, and there are no more of them than triangles.
+/// Grows a tree from a triangle that is new. Each node has one turn, and there are no more of them
+/// than triangles.
 fn grow(alloc: Global, tri: &Tri, t: u32, nodes: &mut Vec<Node>) -> Result<(), Memory>
-    ensures { OnOk result (nodes.new.items ≡ grow tri.now (length tri.now) nodes.old.items (root_node t ∷ [])) }
+    ensures { OnOk result (nodes.new.items ≡ grow tri.now (length tri.now) nodes.old.items
+        (root_node t ∷ [])) }
 {
     let first = nodes.len();
     nodes.push(Node {
@@ -147,8 +152,10 @@ fn grow(alloc: Global, tri: &Tri, t: u32, nodes: &mut Vec<Node>) -> Result<(), M
 /// Puts nodes beyond the sides of the node with this number where the triangles there are new.
 fn sprout(alloc: Global, tri: &Tri, i: usize, nodes: &mut Vec<Node>) -> Result<(), Memory>
     requires { i < length nodes.old.items }
-    ensures { OnOk result ((done todo : List Node) (n : Node) → nodes.old.items ≡ done ++ n ∷ todo → length done ≡ i
-        → nodes.new.items ≡ (done ++ n ∷ []) ++ sprout tri.now n (sides_in_order tri.now n.triangle) (done ++ n ∷ []) todo) }
+    ensures { OnOk result ((done todo : List Node) (n : Node)
+        → nodes.old.items ≡ done ++ n ∷ todo → length done ≡ i
+        → nodes.new.items ≡ (done ++ n ∷ []) ++ sprout tri.now n (sides_in_order tri.now
+        n.triangle) (done ++ n ∷ []) todo) }
 {
     let node = nodes[i].copy(alloc)?;
     for e in 0..tri.edges() {
@@ -159,7 +166,8 @@ fn sprout(alloc: Global, tri: &Tri, i: usize, nodes: &mut Vec<Node>) -> Result<(
     Ok(())
 }
 
-/// Puts a node beyond the label where it is a side of the node's triangle and the triangle there is new.
+/// Puts a node beyond the label where it is a side of the node's triangle and the triangle there is
+/// new.
 fn push_beyond(
     alloc: Global,
     tri: &Tri,

@@ -1,5 +1,6 @@
 //! Lists of words, one for each edge, in the place of letters.
-ghost use Rattle.std.specs.Prelude.{◌≡◌, ◌<◌, ◌≤◌, ◌^◌, ◌++◌, ℕ, length, map, IfOk, OnOk, IfSome, IfNone, All};
+ghost use Rattle.std.specs.Prelude.{◌≡◌, ◌<◌, ◌≤◌, ◌^◌, ◌++◌, ℕ, length, map, IfOk, OnOk, IfSome};
+ghost use Rattle.std.specs.Prelude.{IfNone, All};
 ghost use Rattle.ideal_tri.specs.Words.{reduce, inverse_word, IsReduced};
 ghost use Rattle.tri_atlas.specs.Maps.{image_of_letter};
 ghost use Rattle.tri_atlas.specs.Steps.{move_of};
@@ -30,7 +31,8 @@ pub(crate) fn moved_words(alloc: Global, step: &Step, words: &[Vec<Label>]) -> R
     Ok(moved)
 }
 
-/// A word under a move, reduced as it grows. A letter has at most three images, and the room for all of them is taken first.
+/// A word under a move, reduced as it grows. A letter has at most three images, and the room for
+/// all of them is taken first.
 fn moved_word(alloc: Global, step: &Step, word: &[Label]) -> Result<Vec<Label>, Memory>
     requires { IsBelow EDGES word.now }
     ensures { IfOk result (λ v. (n : ℕ) → IsBelow n word.now
@@ -68,7 +70,8 @@ pub(crate) fn substituted(
     word: &[Label],
 ) -> Result<Vec<Label>, Memory>
     requires { IsBelow (length words.now) word.now }
-    ensures { IfOk result (λ v. v.items ≡ reduced_image (substitution (words_of words.now)) word.now) }
+    ensures { IfOk result (λ v. v.items ≡ reduced_image (substitution (words_of words.now))
+        word.now) }
 {
     word_laws();
     let mut image = Vec::new(alloc);

@@ -7,7 +7,8 @@ ghost use Rattle.free_groupoid.specs.Walks.{DualWalk};
 ghost use Rattle.free_groupoid.specs.GroupoidMaps.{substitution, vertex_image};
 ghost use Rattle.free_groupoid.specs.TestWalks.{forest, outer_edges, edges_at};
 ghost use Rattle.free_groupoid.specs.InnerAnswers.{IsSelfMap};
-ghost use Rattle.free_groupoid.specs.inside.InnerPaths.{is_outer_at, collapse, collapsed_image, shared, second_half, conjugator, root_path};
+ghost use Rattle.free_groupoid.specs.inside.InnerPaths.{is_outer_at, collapse, collapsed_image};
+ghost use Rattle.free_groupoid.specs.inside.InnerPaths.{shared, second_half, conjugator, root_path};
 ghost use Rattle.free_groupoid.specs.inside.ComputedWalks.{root_word, path_from};
 ghost use Rattle.free_groupoid.specs.inside.Images.{words_of};
 
@@ -21,7 +22,8 @@ use ideal_tri::{Label, Memory, Tri, label_laws, surface_laws, word_laws};
 use std::alloc::Global;
 use tri_atlas::map_laws;
 
-/// For each triangle in order: back along the tree, along the walk of the root, and along the image of the way there, reduced.
+/// For each triangle in order: back along the tree, along the walk of the root, and along the image
+/// of the way there, reduced.
 pub(crate) fn inner_paths(
     alloc: Global,
     tri: &Tri,
@@ -30,7 +32,8 @@ pub(crate) fn inner_paths(
 ) -> Result<Vec<Walk>, Memory>
     requires trees { trees.now ≡ forest tri.now }
     requires map { IsSelfMap tri.now f.now }
-    ensures { IfOk result (λ v. v.items ≡ map (path_from tri.now f.now) (range_with_len 0 (length tri.now))) }
+    ensures { IfOk result (λ v. v.items ≡ map (path_from tri.now f.now) (range_with_len 0 (length
+        tri.now))) }
 {
     label_laws();
     word_laws();
@@ -53,17 +56,13 @@ pub(crate) fn inner_paths(
     Ok(paths)
 }
 
-/// For each triangle that is the root of a tree the walk to its image that conjugates the loops of the tree to their images, and for the
-/// others no letters.
-fn root_walks(
-    alloc: Global,
-    tri: &Tri,
-    trees: &Forest,
-    f: &Map,
-) -> Result<Vec<Vec<Label>>, Memory>
+/// For each triangle that is the root of a tree the walk to its image that conjugates the loops of
+/// the tree to their images, and for the others no letters.
+fn root_walks(alloc: Global, tri: &Tri, trees: &Forest, f: &Map) -> Result<Vec<Vec<Label>>, Memory>
     requires trees { trees.now ≡ forest tri.now }
     requires map { IsSelfMap tri.now f.now }
-    ensures { IfOk result (λ v. words_of v.items ≡ map (root_word tri.now f.now) (range_with_len 0 (length tri.now))) }
+    ensures { IfOk result (λ v. words_of v.items
+        ≡ map (root_word tri.now f.now) (range_with_len 0 (length tri.now))) }
 {
     let mut walks = Vec::new(alloc);
     for t in 0..tri.triangles() {
@@ -77,7 +76,8 @@ fn root_walks(
     Ok(walks)
 }
 
-/// The loops of a word that conjugates each edge of the component to its collapsed image, and on along the tree.
+/// The loops of a word that conjugates each edge of the component to its collapsed image, and on
+/// along the tree.
 fn root_walk(
     alloc: Global,
     tri: &Tri,
@@ -88,7 +88,8 @@ fn root_walk(
     requires trees { trees.now ≡ forest tri.now }
     requires map { IsSelfMap tri.now f.now }
     requires root { r < length tri.now }
-    ensures { IfOk result (λ v. v.items ≡ root_path tri.now (substitution f.now.images) (vertex_image f.now) r) }
+    ensures { IfOk result (λ v. v.items ≡ root_path tri.now (substitution f.now.images)
+        (vertex_image f.now) r) }
 {
     let mut walk = Vec::new(alloc);
     for x in &conjugator(alloc, tri, trees, f, r)? {
@@ -98,7 +99,8 @@ fn root_walk(
     Ok(walk)
 }
 
-/// A word that conjugates each edge outside the tree of this root to its collapsed image, where one does.
+/// A word that conjugates each edge outside the tree of this root to its collapsed image, where one
+/// does.
 fn conjugator(
     alloc: Global,
     tri: &Tri,
@@ -109,7 +111,8 @@ fn conjugator(
     requires trees { trees.now ≡ forest tri.now }
     requires map { IsSelfMap tri.now f.now }
     ensures value { IfOk result (λ v. v.items
-        ≡ conjugator tri.now (substitution f.now.images) r (edges_at tri.now r (outer_edges tri.now))) }
+        ≡ conjugator tri.now (substitution f.now.images) r (edges_at tri.now r (outer_edges
+        tri.now))) }
     ensures labels { IfOk result (λ v. All (IsLabel tri.now) v.items) }
 {
     let edges = edges_at(alloc, tri, trees, r)?;
@@ -142,7 +145,8 @@ fn edges_at(alloc: Global, tri: &Tri, trees: &Forest, r: u32) -> Result<Vec<u32>
     Ok(edges)
 }
 
-/// The image of the loop of an edge, with the letters of the trees and of other components left out.
+/// The image of the loop of an edge, with the letters of the trees and of other components left
+/// out.
 fn collapsed_image(
     alloc: Global,
     tri: &Tri,
@@ -154,7 +158,8 @@ fn collapsed_image(
     requires trees { trees.now ≡ forest tri.now }
     requires map { IsSelfMap tri.now f.now }
     requires edge { e < edge_count tri.now }
-    ensures value { IfOk result (λ v. v.items ≡ collapsed_image tri.now (substitution f.now.images) r e) }
+    ensures value { IfOk result (λ v. v.items ≡ collapsed_image tri.now (substitution f.now.images)
+        r e) }
     ensures labels { IfOk result (λ v. All (IsLabel tri.now) v.items) }
 {
     label_laws();
@@ -199,8 +204,8 @@ fn is_outer_at(tri: &Tri, trees: &Forest, r: u32, e: u32) -> bool
     e < tri.edges() && !trees.crosses(e) && root_of_edge(tri, trees, e) == r
 }
 
-/// Where `a` conjugates `x` and `b` another letter, and one word both to the same, that word: it is `a` behind letters of the edge of `x`
-/// alone.
+/// Where `a` conjugates `x` and `b` another letter, and one word both to the same, that word: it is
+/// `a` behind letters of the edge of `x` alone.
 fn shared(
     alloc: Global,
     tri: &Tri,

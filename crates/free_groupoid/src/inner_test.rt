@@ -20,20 +20,21 @@ use std::alloc::Global;
 pub enum InnerAnswer {
     /// The map is inner.
     Yes {
-        /// The reduced walks by which it is, one from each triangle to its image, in the order of the triangles: across an edge
-        /// and on along the walk from the triangle there is, reduced, the same as along the walk from the triangle here and
-        /// on along the image of the edge.
+        /// The reduced walks by which it is, one from each triangle to its image, in the order of
+        /// the triangles: across an edge and on along the walk from the triangle there is, reduced,
+        /// the same as along the walk from the triangle here and on along the image of the edge.
         paths: Vec<Walk>,
     },
     /// The map isn't inner.
     No {
-        /// The first of the test walks whose image, reduced as a closed walk, isn't the walk begun at one of its places.
+        /// The first of the test walks whose image, reduced as a closed walk, isn't the walk begun
+        /// at one of its places.
         walk: Walk,
     },
 }
 
-/// Whether a map of a triangulation to itself is inner, so that the mapping class it stands for is trivial (Farb and Margalit,
-/// chapter 8).
+/// Whether a map of a triangulation to itself is inner, so that the mapping class it stands for is
+/// trivial (Farb and Margalit, chapter 8).
 pub fn inner(alloc: Global, tri: &Tri, f: &Map) -> Result<InnerAnswer, Memory>
     requires { IsSelfMap tri.now f.now }
     ensures { IfOk result (IsInnerAnswer tri.now f.now) }
@@ -56,7 +57,8 @@ pub fn inner(alloc: Global, tri: &Tri, f: &Map) -> Result<InnerAnswer, Memory>
     })
 }
 
-/// Whether the image of a closed walk, reduced as a closed walk, is the walk begun at one of its places.
+/// Whether the image of a closed walk, reduced as a closed walk, is the walk begun at one of its
+/// places.
 fn is_kept(alloc: Global, f: &Map, word: &[Label]) -> Result<bool, Memory>
     requires { IsBelow (length f.now.images) word.now }
     ensures { IfOk result (λ b. IsTrue b ↔ IsKept (substitution f.now.images) word.now) }

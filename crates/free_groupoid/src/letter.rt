@@ -18,7 +18,8 @@ use tri_atlas::{Atlas, MoveId, Step};
 /// The image of one letter under one move: at most three letters, kept in the value itself.
 pub type LetterImage = SmallVec<Label, 3>;
 
-/// The image of the letter `x`, a label where the move starts. It takes no memory; the allocator is what the vector keeps.
+/// The image of the letter `x`, a label where the move starts. It takes no memory; the allocator is
+/// what the vector keeps.
 pub fn move_image(alloc: Global, atlas: &Atlas, m: MoveId, x: Label) -> LetterImage
     requires here { IsMoveIn atlas.now m }
     requires label { IsLabel (triangulation atlas.now (source_of atlas.now m)) x }

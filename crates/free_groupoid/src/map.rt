@@ -1,12 +1,18 @@
 //! Maps of walks from one triangulation to another.
-ghost use Rattle.std.specs.Prelude.{◌≡◌, ◌<◌, ◌≤◌, ◌^◌, ℕ, List, length, map, slice_index, IfOk, IfErr, OnOk};
+ghost use Rattle.std.specs.Prelude.{◌≡◌, ◌<◌, ◌≤◌, ◌^◌, ℕ, List, length, map, slice_index, IfOk};
+ghost use Rattle.std.specs.Prelude.{IfErr, OnOk};
 ghost use Rattle.ideal_tri.specs.Triangulations.{edge_count};
-ghost use Rattle.tri_atlas.specs.Arena.{Arena, IsArena, triangulation, IsTriIn, IsMoveIn, source_of};
+ghost use Rattle.tri_atlas.specs.Arena.{Arena, IsArena, triangulation, IsTriIn, IsMoveIn};
+ghost use Rattle.tri_atlas.specs.Arena.{source_of};
 ghost use Rattle.tri_atlas.specs.Paths.{IsPathIn};
-ghost use Rattle.free_groupoid.specs.GroupoidMaps.{IsMapIn, identity_map, followed, followed_along, composed, image_walk, vertex_image, letters_in, map_of_walks, AreImages, substitution, reduced_image};
+ghost use Rattle.free_groupoid.specs.GroupoidMaps.{IsMapIn, identity_map, followed, followed_along};
+ghost use Rattle.free_groupoid.specs.GroupoidMaps.{composed, image_walk, vertex_image, letters_in};
+ghost use Rattle.free_groupoid.specs.GroupoidMaps.{map_of_walks, AreImages, substitution};
+ghost use Rattle.free_groupoid.specs.GroupoidMaps.{reduced_image};
 ghost use Rattle.free_groupoid.specs.inside.Images.{IsBelow};
 ghost use Rattle.free_groupoid.specs.Walks.{IsWalkOn};
-ghost use Rattle.free_groupoid.specs.MapRefusals.{IsMoveRefusal, IsPathRefusal, IsCompositeRefusal, StaysWithin};
+ghost use Rattle.free_groupoid.specs.MapRefusals.{IsMoveRefusal, IsPathRefusal, IsCompositeRefusal};
+ghost use Rattle.free_groupoid.specs.MapRefusals.{StaysWithin};
 
 use crate::images::{Words, composed_words, letters_past, moved_words, substituted};
 use crate::laws::groupoid_laws;
@@ -20,8 +26,9 @@ use std::alloc::Global;
 use std::marker::Model;
 use tri_atlas::{Atlas, MoveId, Path, TriId, atlas_laws};
 
-/// A map of the groupoid of walks on one triangulation to that of another, after Bell's flipper and Farb and Margalit's
-/// outer automorphisms: a reduced walk for each label, and a triangle for each triangle. Inverse labels get inverse walks.
+/// A map of the groupoid of walks on one triangulation to that of another, after Bell's flipper and
+/// Farb and Margalit's outer automorphisms: a reduced walk for each label, and a triangle for each
+/// triangle. Inverse labels get inverse walks.
 #[derive(Drop)]
 pub struct Map {
     source: TriId,
@@ -39,8 +46,8 @@ pub struct Map {
 pub enum MapError {
     /// No memory was found.
     Memory,
-    /// The map has more letters than the cap: so many in the images of the labels 0, 1, .. together, or 2^64 - 1 where there
-    /// are more.
+    /// The map has more letters than the cap: so many in the images of the labels 0, 1, ..
+    /// together, or 2^64 - 1 where there are more.
     CapPassed {
         /// The number of letters.
         letters: u64,
@@ -93,12 +100,14 @@ impl Map {
         })
     }
 
-    /// The map that sends each of the labels 0, 1, .. of `source` along its reduced walk on `target`. Each triangle of `source` is
-    /// to have one image: where the walk of each label starts that is a side of it, and where that of the inverse of each
-    /// such label ends. It takes no memory.
+    /// The map that sends each of the labels 0, 1, .. of `source` along its reduced walk on
+    /// `target`. Each triangle of `source` is to have one image: where the walk of each label
+    /// starts that is a side of it, and where that of the inverse of each such label ends. It takes
+    /// no memory.
     pub fn from_images(atlas: &Atlas, source: TriId, target: TriId, images: Vec<Walk>) -> Map
         requires { (triangles : List ℕ) × AreImages atlas.now source target images.items triangles }
-        ensures value { (triangles : List ℕ) → AreImages atlas.now source target images.items triangles
+        ensures value { (triangles : List ℕ) → AreImages atlas.now source target images.items
+            triangles
             → result ≡ map_of_walks source target images.items triangles }
         ensures maps { IsMapIn atlas.now result }
     {
@@ -132,15 +141,17 @@ impl Map {
         self.target
     }
 
-    /// Goes on by a move from where the map ends: each image is rewritten by the move's letters, and reduced as it grows. Where
-    /// the map then has more letters than the cap, it is the one after the move all the same. It is unchanged where memory is
-    /// wanting. The time is in proportion to its letters before.
+    /// Goes on by a move from where the map ends: each image is rewritten by the move's letters,
+    /// and reduced as it grows. Where the map then has more letters than the cap, it is the one
+    /// after the move all the same. It is unchanged where memory is wanting. The time is in
+    /// proportion to its letters before.
     pub fn follow(&mut self, atlas: &Atlas, m: MoveId, cap: u64) -> Result<(), MapError>
         requires here { IsMoveIn atlas.now m }
         requires map { IsMapIn atlas.now self.old }
         requires follows { source_of atlas.now m ≡ self.old.target }
         requires cap { cap < 2 ^ 63 }
-        ensures accepted { OnOk result ((self.new ≡ followed atlas.now self.old m) × (letters_in self.new.images ≤ cap)) }
+        ensures accepted { OnOk result ((self.new ≡ followed atlas.now self.old m)
+            × (letters_in self.new.images ≤ cap)) }
         ensures refused { IfErr result (IsMoveRefusal atlas.now self.old self.new m cap) }
         ensures maps { IsMapIn atlas.now self.new }
     {
@@ -160,14 +171,16 @@ impl Map {
         Ok(())
     }
 
-    /// Goes on by the moves of a path from where the map ends. It stops at the first refusal, with the map after the moves that
-    /// were made.
+    /// Goes on by the moves of a path from where the map ends. It stops at the first refusal, with
+    /// the map after the moves that were made.
     pub fn follow_path(&mut self, atlas: &Atlas, p: &Path, cap: u64) -> Result<(), MapError>
         requires path { IsPathIn atlas.now p.now }
         requires map { IsMapIn atlas.now self.old }
         requires follows { p.now.start ≡ self.old.target }
         requires cap { cap < 2 ^ 63 }
-        ensures accepted { OnOk result ((self.new ≡ followed_along atlas.now self.old p.now.moves) × StaysWithin atlas.now self.old p.now.moves cap) }
+        ensures accepted { OnOk result ((self.new
+            ≡ followed_along atlas.now self.old p.now.moves)
+            × StaysWithin atlas.now self.old p.now.moves cap) }
         ensures refused { IfErr result (IsPathRefusal atlas.now self.old self.new p.now.moves cap) }
         ensures maps { IsMapIn atlas.now self.new }
     {
@@ -183,7 +196,8 @@ impl Map {
         requires maps { (arena : Arena) × IsMapIn arena self.now × IsMapIn arena next.now }
         requires follows { next.now.source ≡ self.now.target }
         requires cap { cap < 2 ^ 63 }
-        ensures accepted { IfOk result (λ f. (f ≡ composed self.now next.now) × (letters_in f.images ≤ cap)) }
+        ensures accepted { IfOk result (λ f. (f ≡ composed self.now next.now)
+            × (letters_in f.images ≤ cap)) }
         ensures refused { IfErr result (IsCompositeRefusal self.now next.now cap) }
         ensures maps { IfOk result (λ f. (arena : Arena) → IsArena arena → IsMapIn arena self.now
             → IsMapIn arena next.now → IsMapIn arena f) }
@@ -207,7 +221,8 @@ impl Map {
 
     /// The image of a walk on the source, reduced.
     pub fn image(&self, alloc: Global, w: &Walk) -> Result<Walk, Memory>
-        requires { (arena : Arena) × IsMapIn arena self.now × IsWalkOn (triangulation arena self.now.source) w.now }
+        requires { (arena : Arena) × IsMapIn arena self.now
+            × IsWalkOn (triangulation arena self.now.source) w.now }
         ensures value { IfOk result (λ v. v ≡ image_walk self.now w.now) }
         ensures walks { IfOk result (λ v. (arena : Arena) → IsArena arena → IsMapIn arena self.now
             → IsWalkOn (triangulation arena self.now.source) w.now
@@ -223,7 +238,8 @@ impl Map {
     /// A word with the images in the place of its letters, reduced.
     pub(crate) fn substituted(&self, alloc: Global, word: &[Label]) -> Result<Vec<Label>, Memory>
         requires { IsBelow (length self.now.images) word.now }
-        ensures { IfOk result (λ v. v.items ≡ reduced_image (substitution self.now.images) word.now) }
+        ensures { IfOk result (λ v. v.items ≡ reduced_image (substitution self.now.images)
+            word.now) }
     {
         substituted(alloc, self.images.as_slice(), word)
     }

@@ -3,7 +3,8 @@ ghost use Rattle.std.specs.Prelude.{◌≡◌, ◌<◌, ◌++◌, ◌^◌, pos, 
 ghost use Rattle.ideal_tri.specs.Words.{inverse_word, cyclic_reduce};
 ghost use Rattle.ideal_tri.specs.Triangulations.{IsLabel, edge_count};
 ghost use Rattle.free_groupoid.specs.Walks.{IsClosedOn, walk_of_letters};
-ghost use Rattle.free_groupoid.specs.TestWalks.{forest, loop, outer_edges, root_of_edge, edges_at, test_walks};
+ghost use Rattle.free_groupoid.specs.TestWalks.{forest, loop, outer_edges, root_of_edge, edges_at};
+ghost use Rattle.free_groupoid.specs.TestWalks.{test_walks};
 ghost use Rattle.free_groupoid.specs.InnerLaws.{IsReducedLoop};
 ghost use Rattle.free_groupoid.specs.inside.Images.{words_of};
 
@@ -14,9 +15,10 @@ use crate::word::cyclic_reduce;
 use ideal_tri::{Label, Memory, Tri};
 use std::alloc::Global;
 
-/// The closed walks that decide whether a map is inner. Each edge that no tree of the spanning forest crosses has a loop: along the
-/// tree to the edge, across it, and along the tree back. The walks are these loops, in the order of the edges, and then
-/// the products of each two of one component, ordered by the first and then the second, all reduced as closed walks.
+/// The closed walks that decide whether a map is inner. Each edge that no tree of the spanning
+/// forest crosses has a loop: along the tree to the edge, across it, and along the tree back. The
+/// walks are these loops, in the order of the edges, and then the products of each two of one
+/// component, ordered by the first and then the second, all reduced as closed walks.
 pub fn test_walks(alloc: Global, tri: &Tri) -> Result<Vec<Walk>, Memory>
     ensures value { IfOk result (λ v. v.items ≡ map (walk_of_letters tri.now) (test_walks tri.now)) }
     ensures closed { IfOk result (λ v. All (IsClosedOn tri.now) v.items) }
@@ -128,7 +130,8 @@ pub(crate) fn root_of_edge(tri: &Tri, trees: &Forest, e: u32) -> u32
     trees.root(tri.place(label(tri, e)).0)
 }
 
-/// Puts the loop of a label behind a word: along the tree to the triangle of the label, across, and along the tree back.
+/// Puts the loop of a label behind a word: along the tree to the triangle of the label, across, and
+/// along the tree back.
 pub(crate) fn push_loop(
     tri: &Tri,
     trees: &Forest,

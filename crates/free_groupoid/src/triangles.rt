@@ -38,7 +38,8 @@ pub(crate) fn moved_triangles(
     requires within { All (λ t. t < length before.now) triangles.now }
     requires moves { IsMove before.now after.now (move_of (edge_count before.now) step.now) }
     ensures { take (length triangles.now) result
-        ≡ map (triangle_image before.now after.now (move_of (edge_count before.now) step.now)) triangles.now }
+        ≡ map (triangle_image before.now after.now (move_of (edge_count before.now) step.now))
+        triangles.now }
 {
     let mut moved = [0; TRIANGLES];
     for k in 0..triangles.len() {
@@ -51,7 +52,8 @@ pub(crate) fn moved_triangles(
 fn moved_triangle(step: &Step, before: &Tri, after: &Tri, t: u32) -> u32
     requires within { t < length before.now }
     requires moves { IsMove before.now after.now (move_of (edge_count before.now) step.now) }
-    ensures { result ≡ triangle_image before.now after.now (move_of (edge_count before.now) step.now) t }
+    ensures { result ≡ triangle_image before.now after.now (move_of (edge_count before.now)
+        step.now) t }
 {
     relabelling_laws();
     match step {
@@ -77,7 +79,8 @@ pub(crate) fn composed_triangles(first: &[u32], second: &[u32]) -> [u32; TRIANGL
     composed
 }
 
-/// Where the triangles go, given the walks of the labels 0, 1, ..: to where that of a side starts, or that of its inverse ends.
+/// Where the triangles go, given the walks of the labels 0, 1, ..: to where that of a side starts,
+/// or that of its inverse ends.
 pub(crate) fn image_triangles(source: &Tri, target: &Tri, walks: &[Walk]) -> [u32; TRIANGLES]
     requires { (triangles : List ℕ) × JoinImages source.now target.now walks.now triangles }
     ensures { (triangles : List ℕ) → JoinImages source.now target.now walks.now triangles
@@ -92,12 +95,13 @@ pub(crate) fn image_triangles(source: &Tri, target: &Tri, walks: &[Walk]) -> [u3
     triangles
 }
 
-/// Where the triangle of `x` goes, given the walks of the labels 0, 1, ..: to where the walk of `x` starts, or that of its
-/// inverse ends.
+/// Where the triangle of `x` goes, given the walks of the labels 0, 1, ..: to where the walk of `x`
+/// starts, or that of its inverse ends.
 fn side_image(target: &Tri, walks: &[Walk], x: Label) -> u32
     requires { (before : List (List ℤ)) × (images : List ℕ)
         × JoinImages before target.now walks.now images × IsLabel before x }
-    ensures { (before : List (List ℤ)) (images : List ℕ) → JoinImages before target.now walks.now images
+    ensures { (before : List (List ℤ)) (images : List ℕ)
+        → JoinImages before target.now walks.now images
         → IsLabel before x → result ≡ slice_index images (triangle_of before x) }
 {
     let walk = &walks[x.edge() as usize];

@@ -3,7 +3,8 @@ ghost use Rattle.std.specs.Prelude.{◌≡◌, ◌≢◌, ◌<◌, ◌↔◌, []
 ghost use Rattle.ideal_tri.specs.Words.{IsRotation};
 ghost use Rattle.ideal_tri.specs.Triangulations.{IsLabel};
 ghost use Rattle.ideal_tri.specs.Peripheral.{IsPeripheral};
-ghost use Rattle.free_groupoid.specs.Walks.{DualWalk, IsWalkOn, IsClosedOn, reduced_walk, cyclically_reduced_walk};
+ghost use Rattle.free_groupoid.specs.Walks.{DualWalk, IsWalkOn, IsClosedOn, reduced_walk};
+ghost use Rattle.free_groupoid.specs.Walks.{cyclically_reduced_walk};
 ghost use Rattle.free_groupoid.specs.WalkRefusals.{IsRefusedFor};
 ghost use Rattle.free_groupoid.specs.inside.Turns.{turn_of, TurnsEach};
 
@@ -12,8 +13,8 @@ use ideal_tri::{Label, Tri, surface_laws, word_laws};
 use std::alloc::{AllocError, Global};
 use std::marker::Model;
 
-/// A walk on the dual graph of a triangulation: each letter `x` is a step across an edge, from the triangle of `x` to that of
-/// the inverse of `x`, and each starts where the one before ended.
+/// A walk on the dual graph of a triangulation: each letter `x` is a step across an edge, from the
+/// triangle of `x` to that of the inverse of `x`, and each starts where the one before ended.
 #[derive(Debug, Drop)]
 pub struct Walk {
     /// The number of the triangle where the walk starts.
@@ -53,8 +54,13 @@ impl Walk {
     /// The walk of these letters from the triangle `start`.
     pub fn new(alloc: Global, tri: &Tri, start: u32, letters: &[Label]) -> Result<Walk, WalkError>
         requires { start < length tri.now }
-        ensures accepted { IfOk result (λ w. IsWalkOn tri.now w × (w ≡ record { start = start; letters = letters.now })) }
-        ensures refused { IfErr result (IsRefusedFor tri.now (record { start = start; letters = letters.now })) }
+        ensures accepted { IfOk result (λ w. IsWalkOn tri.now w × (w
+            ≡ record { start = start; letters = letters.now })) }
+        ensures refused { IfErr result (IsRefusedFor tri.now (record {
+          start = start;
+          letters =
+              letters.now;
+        })) }
     {
         let mut stand = start;
         for (i, x) in letters.iter().enumerate() {
@@ -76,8 +82,8 @@ impl Walk {
         word::reduce(&mut self.letters);
     }
 
-    /// Deletes such neighbours, and such pairs at the two ends of the walk, which is to be closed. The walk then starts
-    /// where the letters that are left start.
+    /// Deletes such neighbours, and such pairs at the two ends of the walk, which is to be closed.
+    /// The walk then starts where the letters that are left start.
     pub fn cyclic_reduce(&mut self, tri: &Tri)
         requires { IsClosedOn tri.now self.old }
         ensures value { self.new ≡ cyclically_reduced_walk tri.now self.old }
@@ -93,16 +99,16 @@ impl Walk {
     }
 }
 
-/// Whether the letters of the second walk are those of the first, begun at another of their places. For closed walks the
-/// letters decide, since a letter fixes its triangle.
+/// Whether the letters of the second walk are those of the first, begun at another of their places.
+/// For closed walks the letters decide, since a letter fixes its triangle.
 pub fn is_rotation(v: &Walk, w: &Walk) -> bool
     ensures { IsTrue result ↔ IsRotation v.now.letters w.now.letters }
 {
     word::is_rotation(&v.letters, &w.letters)
 }
 
-/// Whether a closed walk runs round one vertex: at each triangle it leaves by the side after the one it entered by, or at each by
-/// the side before it.
+/// Whether a closed walk runs round one vertex: at each triangle it leaves by the side after the
+/// one it entered by, or at each by the side before it.
 pub fn is_peripheral(tri: &Tri, w: &Walk) -> bool
     requires { IsClosedOn tri.now w.now }
     ensures { IsTrue result ↔ IsPeripheral tri.now w.now.letters }

@@ -1,5 +1,6 @@
 //! Words of labels, in place.
-ghost use Rattle.std.specs.Prelude.{◌≡◌, ◌↔◌, ◌≤◌, ◌-◌, ◌*◌, ◌++◌, ◌∷◌, [], length, take, drop, IsTrue, OnOk};
+ghost use Rattle.std.specs.Prelude.{◌≡◌, ◌↔◌, ◌≤◌, ◌-◌, ◌*◌, ◌++◌, ◌∷◌, [], length, take, drop};
+ghost use Rattle.std.specs.Prelude.{IsTrue, OnOk};
 ghost use Rattle.ideal_tri.specs.Words.{reduce, cyclic_reduce, strip, IsReduced, IsRotation};
 
 use ideal_tri::{Label, Memory, word_laws};

@@ -8,7 +8,8 @@ use Rattle.free_groupoid.specs.inside.InnerPaths.{root_path, inner_path}
 -- for a root its walk, and for another triangle no letters
 abbrev pub root_word : List (List ℤ) → GroupoidMap → ℕ → List ℤ
 root_word triples f t =
-    if nat_eq (root_of triples t) t then root_path triples (substitution f.images) (vertex_image f) t else []
+    if nat_eq (root_of triples t) t then root_path triples (substitution f.images) (vertex_image f)
+    t else []
 
 -- the walk from a triangle
 abbrev pub path_from : List (List ℤ) → GroupoidMap → ℕ → DualWalk

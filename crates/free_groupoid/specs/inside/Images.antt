@@ -13,11 +13,14 @@ words_of vectors = map (λ v. v.items) vectors
 abbrev pub IsBelow : ℕ → List ℤ → Type 0
 IsBelow n w = All (λ x. edge_of x < n) w
 
--- the walks of the labels 0, 1, .. lead from the image of each one's triangle to that of the triangle of its inverse
-pub record JoinImages (before after : List (List ℤ)) (walks : List DualWalk) (triangles : List ℕ) : Type 0 where
+-- the walks of the labels 0, 1, .. lead from the image of each one's triangle to that of the
+-- triangle of its inverse
+pub record JoinImages (before after : List (List ℤ)) (walks : List DualWalk) (triangles : List ℕ) :
+    Type 0 where
   pub one_per_edge : length walks ≡ edge_count before
   pub one_per_triangle : length triangles ≡ length before
   pub starts : (n : ℕ) → n < length walks
       → (walk_at walks n).start ≡ slice_index triangles (triangle_of before (pos n))
   pub leads : (n : ℕ) → n < length walks
-      → IsWalk after (walk_at walks n).start (walk_at walks n).letters (slice_index triangles (triangle_of before (negsuc n)))
+      → IsWalk after (walk_at walks n).start (walk_at walks n).letters (slice_index triangles
+      (triangle_of before (negsuc n)))

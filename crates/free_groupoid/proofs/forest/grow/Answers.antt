@@ -6,13 +6,18 @@ use Rattle.free_groupoid.proofs.forest.grow.Goals.{then-i-len+in_ok-sprout, else
 pub loop-k-preserved : goal.loop-k-preserved
 loop-k-preserved c =
     let inside : c.loop-k.k < length c.args.tri.now = omega (arith, c.triangles-k-end.ensures.count) in
-    let place : c.len-first.result + c.loop-k.k ≡ length c.args.nodes.now.items + c.loop-k.k = omega (arith, c.len-first.ensures) in
+    let place : c.len-first.result + c.loop-k.k ≡ length c.args.nodes.now.items + c.loop-k.k = omega (
+      arith,
+      c.len-first.ensures,
+    ) in
     elim c.if-i-len.branch [
       | then-i-len+in_ok-sprout w ↦
-          subst (λ ns. IsGrown c.args.tri.now c.args.nodes.now.items c.args.t ns (c.loop-k.k + 1)) (ap (λ v. v.items) (sym w.nodes-is))
+          subst (λ ns. IsGrown c.args.tri.now c.args.nodes.now.items c.args.t ns (c.loop-k.k + 1)) (ap (λ v. v.items)
+          (sym w.nodes-is))
           (grown_more _ _ _ _ _ _ c.loop-k.invariant inside (omega (arith, w.if-i-len.true, c.len.ensures, place))
           (λ done todo n is_nodes here. w.in_ok-sprout.ensures done todo n is_nodes (here ∙ sym place)))
       | else-i-len w ↦
-          subst (λ ns. IsGrown c.args.tri.now c.args.nodes.now.items c.args.t ns (c.loop-k.k + 1)) (ap (λ v. v.items) (sym w.nodes-is))
+          subst (λ ns. IsGrown c.args.tri.now c.args.nodes.now.items c.args.t ns (c.loop-k.k + 1)) (ap (λ v. v.items)
+          (sym w.nodes-is))
           (grown_done _ _ _ _ _ c.loop-k.invariant inside (omega (arith, w.if-i-len.false, c.len.ensures, place)))
     ]

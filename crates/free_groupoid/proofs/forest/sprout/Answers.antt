@@ -7,8 +7,10 @@ use Rattle.free_groupoid.proofs.forest.sprout.Goals as goal
 pub loop-e-preserved : goal.loop-e-preserved
 loop-e-preserved c =
     let small : c.loop-e.e < 2 ^ 31 = omega (arith, c.edges-e-end.ensures.size.few) in
-    trying_more _ _ _ _ _ _ _ _ c.new-x.result _ (omega (arith, c.edges-e-end.ensures.count)) c.loop-e.invariant c.node.view_is
-    (c.new-x.ensures ∙ to_z_pos w32 c.loop-e.e small) c.inverse.ensures (c.in_ok-push_beyond.ensures) (c.in_ok-push_beyond-2.ensures)
+    trying_more _ _ _ _ _ _ _ _ c.new-x.result _ (omega (arith, c.edges-e-end.ensures.count)) c.loop-e.invariant
+    c.node.view_is
+    (c.new-x.ensures ∙ to_z_pos w32 c.loop-e.e small) c.inverse.ensures (c.in_ok-push_beyond.ensures)
+    (c.in_ok-push_beyond-2.ensures)
 
 pub returns : goal.returns
 returns c = λ done todo n is_old here.

@@ -7,7 +7,8 @@ use Rattle.free_groupoid.proofs.images.append_inverse_reduced.Goals as goal
 
 pub loop-k-init : goal.loop-k-init
 loop-k-init c =
-    reduces_itself c.word_laws.ensures.reduction _ _ c.requires (ap inverse_word (drop_all _ c.args.more.now (omega arith)))
+    reduces_itself c.word_laws.ensures.reduction _ _ c.requires (ap inverse_word (drop_all _ c.args.more.now (omega
+    arith)))
 
 pub push_reduced-requires : goal.push_reduced-requires
 push_reduced-requires c = is_reduced c.word_laws.ensures.reduction _ _ c.loop-k.invariant
@@ -17,4 +18,5 @@ loop-k-preserved c =
     next c.word_laws.ensures.reduction (inverse c.index-more-count.result ∷ []) _ _ _ _ c.loop-k.invariant
     (subst (λ (z : ℤ). c.push_reduced.new.word.items ≡ reduce (c.loop-k.word.items ++ (z ∷ []))) c.inverse.ensures
     c.in_ok-push_reduced.ensures.value)
-    (letters_back _ c.args.more.now _ c.loop-k.k c.index-more-count.result refl c.loop-k-test.true c.index-more-count.is)
+    (letters_back _ c.args.more.now _ c.loop-k.k c.index-more-count.result refl c.loop-k-test.true
+    c.index-more-count.is)

@@ -10,5 +10,6 @@ push_reduced-requires c = is_reduced c.word_laws.ensures.reduction _ _ c.loop-x.
 
 pub loop-x-preserved : goal.loop-x-preserved
 loop-x-preserved c =
-    next c.word_laws.ensures.reduction (c.x-item.result ∷ []) _ _ _ _ c.loop-x.invariant c.in_ok-push_reduced.ensures.value
+    next c.word_laws.ensures.reduction (c.x-item.result ∷ []) _ _ _ _ c.loop-x.invariant
+    c.in_ok-push_reduced.ensures.value
     (letters_on _ _ c.loop-x.x-index c.x-item.result c.loop-x-test.true c.x-item.is)

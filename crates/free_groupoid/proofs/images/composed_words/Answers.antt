@@ -7,12 +7,14 @@ use Rattle.free_groupoid.proofs.images.composed_words.Goals as goal
 pub substituted-requires : goal.substituted-requires
 substituted-requires c =
     subst (IsBelow (length c.args.others.now)) (sym c.deref.ensures.value)
-    (held_by_word (IsBelow (length c.args.others.now)) _ _ c.loop-word.word-index c.requires c.loop-word-test.true c.word-item.is)
+    (held_by_word (IsBelow (length c.args.others.now)) _ _ c.loop-word.word-index c.requires c.loop-word-test.true
+    c.word-item.is)
 
 pub loop-word-preserved : goal.loop-word-preserved
 loop-word-preserved c =
     ap words_of c.in_ok-push.ensures.ok
-    ∙ one_more_word (reduced_image (substitution (words_of c.args.others.now))) c.args.words.now c.loop-word.composed.items c.word-item.result
+    ∙ one_more_word (reduced_image (substitution (words_of c.args.others.now))) c.args.words.now
+    c.loop-word.composed.items c.word-item.result
     c.in_ok-substituted.field-0 c.loop-word.word-index c.loop-word-test.true c.word-item.is
     (c.in_ok-substituted.ensures ∙ ap (reduced_image (substitution (words_of c.args.others.now))) c.deref.ensures.value)
     c.loop-word.invariant

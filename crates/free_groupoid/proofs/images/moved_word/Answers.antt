@@ -12,7 +12,8 @@ push_image-requires-clause-reduced c =
 
 pub loop-x-preserved : goal.loop-x-preserved
 loop-x-preserved c =
-    moved_more c.word_laws.ensures.reduction _ _ _ _ _ _ c.loop-x.invariant c.loop-x-test.true c.x-item.is c.in_ok-push_image.ensures
+    moved_more c.word_laws.ensures.reduction _ _ _ _ _ _ c.loop-x.invariant c.loop-x-test.true c.x-item.is
+    c.in_ok-push_image.ensures
 
 pub returns : goal.returns
 returns c = λ n below. moved_all _ _ _ _ n c.loop-x.invariant (omega arith) below

@@ -18,7 +18,8 @@ moved_word-requires c =
 
 pub loop-word-preserved : goal.loop-word-preserved
 loop-word-preserved c =
-    words_more _ _ _ _ c.word-item.result c.in_ok-moved_word.field-0 _ c.loop-word.invariant c.loop-word-test.true c.word-item.is
+    words_more _ _ _ _ c.word-item.result c.in_ok-moved_word.field-0 _ c.loop-word.invariant c.loop-word-test.true
+    c.word-item.is
     c.in_ok-push.ensures.ok
     (λ n below. c.in_ok-moved_word.ensures n (subst (IsBelow n) (sym c.deref.ensures.value) below)
     ∙ ap (reduced_image (image_of_letter (move_of n c.args.step.now))) c.deref.ensures.value)

@@ -5,4 +5,5 @@ use Rattle.free_groupoid.specs.inside.InnerPaths.{collapse}
 use Rattle.free_groupoid.proofs.inner_paths.collapsed.Given as goal
 
 abbrev pub invariant-loop-x : goal.invariant-loop-x
-invariant-loop-x l = (l.kept.items ≡ flat_map (collapse l.tri l.r) (take l.x-index l.word)) × All (IsLabel l.tri) l.kept.items
+invariant-loop-x l = (l.kept.items ≡ flat_map (collapse l.tri l.r) (take l.x-index l.word))
+    × All (IsLabel l.tri) l.kept.items

@@ -37,9 +37,11 @@ returns-clause-value c =
     c.reduce.ensures
     ∙ ap reduce (c.in_ok-image.ensures.value ∙ ap (flat_map (collapse c.args.tri.now c.args.r)) c.deref-2.ensures.value)
     ∙ collapsed_loop (known (goal.at.returns-clause-value c).After-triangles) c.args.tri.now _ c.args.r c.args.e _
-    (c.in_ok-substituted.ensures ∙ ap (λ (w : List ℤ). reduce (flat_map (substitution c.args.f.now.images) w)) (is_loop (goal.at.returns-clause-value c).After-deref))
+    (c.in_ok-substituted.ensures ∙ ap (λ (w : List ℤ). reduce (flat_map (substitution c.args.f.now.images) w)) (is_loop
+    (goal.at.returns-clause-value c).After-deref))
 
 pub returns-clause-labels : goal.returns-clause-labels
 returns-clause-labels c =
     subst (All (IsLabel c.args.tri.now)) (sym c.reduce.ensures)
-    (reduce-keeps (IsLabel c.args.tri.now) (known (goal.at.returns-clause-labels c).After-triangles) c.in_ok-image.image.items c.in_ok-image.ensures.labels)
+    (reduce-keeps (IsLabel c.args.tri.now) (known (goal.at.returns-clause-labels c).After-triangles)
+    c.in_ok-image.image.items c.in_ok-image.ensures.labels)

@@ -5,4 +5,5 @@ use Rattle.free_groupoid.proofs.ComputedWords.{IsChoosing}
 use Rattle.free_groupoid.proofs.inner_paths.edges_at.Given as goal
 
 abbrev pub invariant-loop-e : goal.invariant-loop-e
-invariant-loop-e l = IsChoosing l.tri l.r l.e-items l.edges.items l.e-index × All (λ e. e < edge_count l.tri) l.edges.items
+invariant-loop-e l = IsChoosing l.tri l.r l.e-items l.edges.items l.e-index
+    × All (λ e. e < edge_count l.tri) l.edges.items

@@ -9,7 +9,8 @@ returns-then-not-crosses c =
     elim c.if-e-edges.branch [
       | then-e-edges w ↦
           (let outside : w.crosses.result ≡ false = search rules in
-          outer_test _ _ _ _ (omega (arith, w.if-e-edges.true, c.edges.ensures.count)) (sym (edge_read _ _ _ c.requires) ∙ sym w.crosses.ensures ∙ outside)
+          outer_test _ _ _ _ (omega (arith, w.if-e-edges.true, c.edges.ensures.count)) (sym (edge_read _ _ _
+          c.requires) ∙ sym w.crosses.ensures ∙ outside)
           c.root_of_edge.ensures)
       | else-e-edges w ↦ search rules
     ]
@@ -25,5 +26,9 @@ returns-else-not-crosses c =
           (sym (edge_read _ _ _ c.requires) ∙ sym w.crosses.ensures ∙ crossed)))
       | else-e-edges w ↦
           (let none : c.if-e-edges.value ≡ false = search rules in
-          none ∙ sym (far_test c.args.tri.now c.args.r c.args.e (omega (arith, w.if-e-edges.false, c.edges.ensures.count))))
+          none ∙ sym (far_test c.args.tri.now c.args.r c.args.e (omega (
+            arith,
+            w.if-e-edges.false,
+            c.edges.ensures.count,
+          ))))
     ]

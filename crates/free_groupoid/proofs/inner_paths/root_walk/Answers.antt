@@ -10,6 +10,7 @@ use Rattle.free_groupoid.proofs.inner_paths.root_walk.Goals as goal
 pub returns : goal.returns
 returns c =
     root_computed c.args.tri.now _ (vertex_image c.args.f.now) c.args.r _ _ _ _ c.in_ok-conjugator.ensures.value
-    (c.loop-x.invariant ∙ ap (flat_map (loop c.args.tri.now)) (take_all _ _ c.loop-x-test.false ∙ c.deref-x-items.ensures.value))
+    (c.loop-x.invariant ∙ ap (flat_map (loop c.args.tri.now)) (take_all _ _ c.loop-x-test.false
+    ∙ c.deref-x-items.ensures.value))
     (c.walk.ensures ∙ walk_read _ _ _ c.requires.trees ∙ ap (tree_walk c.args.tri.now) c.vertex.ensures)
     c.in_ok-extend_from_slice.ensures.items

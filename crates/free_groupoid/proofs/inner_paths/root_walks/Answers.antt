@@ -14,10 +14,12 @@ loop-t-preserved c =
     elim c.if-root-t.branch [
       | then-root-t+in_ok-walk w ↦
           (ap (λ v. v.items) w.walk-is ∙ w.in_ok-walk.ensures
-          ∙ sym (of_root c.args.tri.now c.args.f.now c.loop-t.t (sym (root_read _ _ _ c.requires.trees) ∙ sym c.root.ensures ∙ w.if-root-t.true)))
+          ∙ sym (of_root c.args.tri.now c.args.f.now c.loop-t.t (sym (root_read _ _ _ c.requires.trees)
+          ∙ sym c.root.ensures ∙ w.if-root-t.true)))
       | else-root-t w ↦
           (ap (λ v. v.items) w.walk-is ∙ w.new-walk.ensures.items
-          ∙ sym (of_other c.args.tri.now c.args.f.now c.loop-t.t (λ e. w.if-root-t.false (c.root.ensures ∙ root_read _ _ _ c.requires.trees ∙ e))))
+          ∙ sym (of_other c.args.tri.now c.args.f.now c.loop-t.t (λ e. w.if-root-t.false (c.root.ensures
+          ∙ root_read _ _ _ c.requires.trees ∙ e))))
     ] in
     word_made _ _ c.if-root-t.walk _ _ c.in_ok-push.ensures.items walk c.loop-t.invariant
     ∙ sym (map-range_with_len_more f 0 c.loop-t.t c.loop-t.t (omega arith))

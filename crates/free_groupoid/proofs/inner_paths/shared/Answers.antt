@@ -17,7 +17,8 @@ returns-clause-value c =
     ∙ ap (λ (e : ℕ). take_while (λ y. nat_eq (edge_of y) e) c.deref.result.now) c.edge.ensures
     ∙ ap (take_while (λ y. nat_eq (edge_of y) (edge_of c.args.x)))
     (c.deref.ensures.value ∙ c.reduce.ensures
-    ∙ ap reduce (c.in_ok-push_inverse.ensures ∙ ap (λ (w : List ℤ). w ++ inverse_word c.args.b.now) c.in_ok-word.ensures.items)))
+    ∙ ap reduce (c.in_ok-push_inverse.ensures ∙ ap (λ (w : List ℤ). w ++ inverse_word c.args.b.now)
+    c.in_ok-word.ensures.items)))
     (c.in_ok-extend_from_slice.ensures.items
     ∙ ap (λ (w : List ℤ). w ++ c.args.a.now)
     (c.in_ok-push_inverse-2.ensures
@@ -25,7 +26,12 @@ returns-clause-value c =
 
 pub returns-clause-labels : goal.returns-clause-labels
 returns-clause-labels c =
-    let known : Known = record { labels = c.label_laws.ensures; words = c.word_laws.ensures; maps = c.map_laws.ensures } in
+    let known : Known = record {
+      labels = c.label_laws.ensures;
+      words = c.word_laws.ensures;
+      maps = c.map_laws.ensures;
+    } in
     let value : c.reduce-2.new.letters.items ≡ shared c.args.x c.args.a.now c.args.b.now = returns-clause-value c in
     subst (All (IsLabel c.args.tri.now)) (sym value)
-    (shared_keeps known (IsLabel c.args.tri.now) (known.labels.label c.args.tri.now) c.args.x c.args.a.now c.args.b.now c.requires.0 c.requires.1)
+    (shared_keeps known (IsLabel c.args.tri.now) (known.labels.label c.args.tri.now) c.args.x c.args.a.now c.args.b.now
+    c.requires.0 c.requires.1)

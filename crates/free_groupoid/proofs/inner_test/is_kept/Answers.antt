@@ -8,6 +8,6 @@ use Rattle.free_groupoid.proofs.inner_test.is_kept.Goals as goal
 pub returns : goal.returns
 returns c =
     let value : c.deref.result.now ≡ cyclic_reduce (flat_map (substitution c.args.f.now.images) c.args.word.now) =
-        c.deref.ensures.value ∙ c.cyclic_reduce.ensures ∙ ap cyclic_reduce c.in_ok-image.ensures
-        ∙ cyclic_reduce-reduce c.word_laws.ensures.reduction _ in
+    c.deref.ensures.value ∙ c.cyclic_reduce.ensures ∙ ap cyclic_reduce c.in_ok-image.ensures
+    ∙ cyclic_reduce-reduce c.word_laws.ensures.reduction _ in
     subst (λ (w : List ℤ). IsTrue c.is_rotation.result ↔ IsRotation w c.args.word.now) value c.is_rotation.ensures

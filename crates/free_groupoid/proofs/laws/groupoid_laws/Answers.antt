@@ -16,7 +16,8 @@ returns c =
     let making : MakingLaws = record {
       identity = λ arena t sound. identity_in labels words surface mapping atlas arena sound t;
       followed = λ arena f m sound. followed_in labels words surface mapping atlas arena sound f m;
-      along = λ arena f path sound h p. along_in labels words surface mapping atlas arena f path.start path.end path.moves sound h p.moves_lead;
+      along = λ arena f path sound h p. along_in labels words surface mapping atlas arena f path.start path.end
+          path.moves sound h p.moves_lead;
       composed = λ arena f g sound. composed_in labels words surface mapping atlas arena sound f g;
       walks = λ arena f w sound. image_on labels words surface mapping atlas arena sound f w;
     } in
@@ -29,9 +30,11 @@ returns c =
       composed = composed_letter labels words surface mapping atlas;
     } in
     let action : ActionLaws = record {
-      one_after_another = λ arena f g w sound h k follows. composed_walk labels words surface mapping atlas arena f g w h;
+      one_after_another = λ arena f g w sound h k follows. composed_walk labels words surface mapping atlas arena f g w
+          h;
       path_behind = λ arena f path sound. path_after labels words surface mapping atlas arena sound f path;
       there_and_back = λ arena f path sound h p follows.
-          there_and_back labels words surface mapping atlas arena sound f path.start path.end path.moves h p.moves_lead follows;
+          there_and_back labels words surface mapping atlas arena sound f path.start path.end path.moves h p.moves_lead
+          follows;
     } in
     record { making = making; images = images; action = action }

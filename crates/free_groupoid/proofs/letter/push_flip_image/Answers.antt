@@ -8,4 +8,5 @@ returns c =
     letter_between c.word_laws.ensures.reduction c.args.word.now.items _ _ _ _ _ c.args.x
     (c.in_ok-push_if_any.ensures.value ∙ ap (λ (z : List ℤ). reduce (c.args.word.now.items ++ z)) c.step_before.ensures)
     c.in_ok-push_reduced.ensures.value
-    (c.in_ok-push_if_any-2.ensures.value ∙ ap (λ (z : List ℤ). reduce (c.push_reduced.new.word.items ++ z)) c.step_after.ensures)
+    (c.in_ok-push_if_any-2.ensures.value ∙ ap (λ (z : List ℤ). reduce (c.push_reduced.new.word.items ++ z))
+    c.step_after.ensures)

@@ -7,6 +7,8 @@ use Rattle.free_groupoid.proofs.test_list.push_products.Given as goal
 abbrev pub invariant-loop-j : goal.invariant-loop-j
 invariant-loop-j l =
     words_of l.words.items
-    ++ map (λ j. cyclic_reduce (loop l.tri (pos l.i) ++ loop l.tri (pos j))) (edges_at l.tri (root_of_edge l.tri l.i) (drop l.j-index l.others))
+    ++ map (λ j. cyclic_reduce (loop l.tri (pos l.i) ++ loop l.tri (pos j))) (edges_at l.tri (root_of_edge l.tri l.i)
+    (drop l.j-index l.others))
     ≡ words_of l.fn.words.items
-    ++ map (λ j. cyclic_reduce (loop l.tri (pos l.i) ++ loop l.tri (pos j))) (edges_at l.tri (root_of_edge l.tri l.i) l.others)
+    ++ map (λ j. cyclic_reduce (loop l.tri (pos l.i) ++ loop l.tri (pos j))) (edges_at l.tri (root_of_edge l.tri l.i)
+    l.others)

@@ -15,10 +15,15 @@ loop-t-preserved c = λ images j.
     first_read c.args.source.now c.loop-t.t c.triple.result c.index-triple-0.result c.triple.ensures.triple three in
     let place : triangle_of c.args.source.now (get_or c.triple.result 0 c.index-triple-0.result) ≡ c.loop-t.t =
     ap (triangle_of c.args.source.now) read
-    ∙ (first_side_at c.args.source.now c.triangles-t-end.ensures.sound (c.surface_laws.ensures.triangles _ c.triangles-t-end.ensures.sound) _ inside).1 in
+    ∙ (first_side_at c.args.source.now c.triangles-t-end.ensures.sound (c.surface_laws.ensures.triangles _
+    c.triangles-t-end.ensures.sound) _ inside).1 in
     let many : c.loop-t.t < length images = omega (arith, j.one_per_triangle) in
     filled_more images _ _ _ (c.loop-t.invariant images j)
-    (let room : c.loop-t.t < TRIANGLES = omega (arith, c.triangles-t-end.ensures.size.few, c.triangles-t-end.ensures.sound.edges) in room)
+    (let room : c.loop-t.t < TRIANGLES = omega (
+      arith,
+      c.triangles-t-end.ensures.size.few,
+      c.triangles-t-end.ensures.sound.edges,
+    ) in room)
     many
     (c.side_image.ensures c.args.source.now images j (c.triple.ensures.labels 0 c.index-triple-0.result three)
     ∙ ap (λ (t : ℕ). get_or images t 0) place ∙ get_or_default images c.loop-t.t 0 c.side_image.result many)

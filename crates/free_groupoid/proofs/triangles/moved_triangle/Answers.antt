@@ -7,14 +7,16 @@ use Rattle.free_groupoid.proofs.triangles.moved_triangle.Goals.{After-relabelled
 
 -- the new label of the first side
 moved : (c : After-relabelled)
-    → c.relabelled.result ≡ image_of (take (edge_count c.args.before.now) c.in-Relabel.images) (get_or c.triple.result 0 c.index-triple-0.result)
+    → c.relabelled.result ≡ image_of (take (edge_count c.args.before.now) c.in-Relabel.images) (get_or c.triple.result
+    0 c.index-triple-0.result)
 moved c = c.relabelled.ensures (edge_count c.args.before.now) (omega arith)
 
 pub place-requires : goal.place-requires
 place-requires c =
     let three : 0 < length c.triple.result = omega arith in
     subst (IsLabel c.args.after.now) (sym (moved (goal.at.place-requires c).After-relabelled))
-    (c.relabelling_laws.ensures.label _ _ _ _ (rw c.in-Relabel.is at c.requires.moves) (c.triple.ensures.labels 0 c.index-triple-0.result three))
+    (c.relabelling_laws.ensures.label _ _ _ _ (rw c.in-Relabel.is at c.requires.moves) (c.triple.ensures.labels 0
+    c.index-triple-0.result three))
 
 pub returns-in-Relabel : goal.returns-in-Relabel
 returns-in-Relabel c =

@@ -5,4 +5,5 @@ pub turns-requires : goal.turns-requires
 turns-requires c = rw (c.deref.ensures.value) (walk_labels _ _ _ _ (rw (← c.w.view_is) at c.requires.closed))
 
 pub turns-requires-else-turns : goal.turns-requires-else-turns
-turns-requires-else-turns c = rw (c.deref-else-turns.ensures.value) (walk_labels _ _ _ _ (rw (← c.w.view_is) at c.requires.closed))
+turns-requires-else-turns c = rw (c.deref-else-turns.ensures.value) (walk_labels _ _ _ _ (rw (← c.w.view_is) at
+    c.requires.closed))

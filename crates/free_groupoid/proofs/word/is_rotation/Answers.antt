@@ -4,7 +4,8 @@ use Rattle.std.specs.Ordering.{int_eq}
 use Rattle.std.specs.Cmp.Lexicographic.{pointwise}
 use Rattle.std.proofs.lemmas.Bool.Decides.{Decides-int_eq, not_from_Decides}
 use Rattle.std.proofs.lemmas.Slice.Eq.{slice_eq-Decides}
-use Rattle.free_groupoid.proofs.Rotations.{rotation_from_place, place_of_rotation, front_as_read, back_as_read, place_from_reads}
+use Rattle.free_groupoid.proofs.Rotations.{rotation_from_place, place_of_rotation, front_as_read, back_as_read}
+use Rattle.free_groupoid.proofs.Rotations.{place_from_reads}
 use Rattle.free_groupoid.proofs.word.is_rotation.Goals as goal
 use Rattle.free_groupoid.proofs.word.is_rotation.Goals.{else-eq-via-then-eq+else-eq-2, else-eq-via-else-eq}
 

@@ -4,7 +4,8 @@ use Rattle.ideal_tri.specs.Labels.{inverse}
 use Rattle.ideal_tri.specs.Words.{IsReduced, reduce}
 use Rattle.free_groupoid.proofs.InPlace.{push_cancels, push_first, push_on}
 use Rattle.free_groupoid.proofs.word.push_reduced.Goals as goal
-use Rattle.free_groupoid.proofs.word.push_reduced.Goals.{else-count-gt0-via-then-count-gt0+else-eq, else-count-gt0-via-else-count-gt0}
+use Rattle.free_groupoid.proofs.word.push_reduced.Goals.{else-count-gt0-via-then-count-gt0+else-eq}
+use Rattle.free_groupoid.proofs.word.push_reduced.Goals.{else-count-gt0-via-else-count-gt0}
 
 pub returns-then-eq : goal.returns-then-eq
 returns-then-eq c =

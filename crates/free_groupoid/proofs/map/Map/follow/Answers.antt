@@ -29,8 +29,10 @@ pub moved_triangles-self-inside-requires-clause-within : goal.moved_triangles-se
 moved_triangles-self-inside-requires-clause-within c =
     let target : c.tri-before.result.now ≡ triangulation c.args.atlas.now c.args.self.now.target =
     c.tri-before.ensures.value ∙ ap (λ (f : GroupoidMap). triangulation c.args.atlas.now f.target) c.self.view_is in
-    subst (λ (ts : List (List ℤ)). All (λ t. t < length ts) (take c.self.inside.count c.self.inside.triangles)) (sym target)
-    (subst (All (λ t. t < length (triangulation c.args.atlas.now c.args.self.now.target))) (sym (ap (λ (f : GroupoidMap). f.triangles) c.self.view_is))
+    subst (λ (ts : List (List ℤ)). All (λ t. t < length ts) (take c.self.inside.count c.self.inside.triangles)) (sym
+    target)
+    (subst (All (λ t. t < length (triangulation c.args.atlas.now c.args.self.now.target))) (sym (ap (λ (f :
+    GroupoidMap). f.triangles) c.self.view_is))
     (target_images c.args.atlas.now c.args.self.now c.requires.map))
 
 -- ---- the map that is made
@@ -47,7 +49,8 @@ made_images c =
     (images_labelled c.args.atlas.now c.args.self.now c.args.m c.requires.map c.requires.follows)))
 
 made_triangles : (c : After-moved_triangles-self-inside)
-    → take c.self.inside.count c.moved_triangles-self-inside.result ≡ (followed c.args.atlas.now c.args.self.now c.args.m).triangles
+    → take c.self.inside.count c.moved_triangles-self-inside.result
+    ≡ (followed c.args.atlas.now c.args.self.now c.args.m).triangles
 made_triangles c =
     let target : c.tri-before.result.now ≡ triangulation c.args.atlas.now c.args.self.now.target =
     c.tri-before.ensures.value ∙ ap (λ (f : GroupoidMap). triangulation c.args.atlas.now f.target) c.self.view_is in
@@ -70,7 +73,8 @@ made : (c : After-moved_triangles-self-inside)
       triangles = take c.self.inside.count c.moved_triangles-self-inside.result;
     }) (followed c.args.atlas.now c.args.self.now c.args.m)
 made c =
-    map_equal _ _ _ _ _ _ _ _ (ap (λ (f : GroupoidMap). f.source) c.self.view_is) c.target-self-inside.ensures.value (made_images c) (made_triangles c)
+    map_equal _ _ _ _ _ _ _ _ (ap (λ (f : GroupoidMap). f.source) c.self.view_is) c.target-self-inside.ensures.value
+    (made_images c) (made_triangles c)
 
 roomy : (c : After-moved_triangles-self-inside) → length c.in_ok-images.images.items ≤ EDGES
 roomy c =
@@ -103,11 +107,13 @@ maps : (c : After-moved_triangles-self-inside) → IsMapIn c.args.atlas.now (rec
 })
 maps c =
     subst (IsMapIn c.args.atlas.now) (sym (made c))
-    (c.groupoid_laws.ensures.making.followed _ _ _ c.base.ensures.sound c.requires.map c.requires.here c.requires.follows)
+    (c.groupoid_laws.ensures.making.followed _ _ _ c.base.ensures.sound c.requires.map c.requires.here
+    c.requires.follows)
 
 pub returns-in-Some : goal.returns-in-Some
 returns-in-Some c =
-    let same : words_of c.as_slice-2.result.now ≡ words_of c.in_ok-images.images.items = ap words_of c.as_slice-2.ensures in
+    let same : words_of c.as_slice-2.result.now ≡ words_of c.in_ok-images.images.items = ap words_of
+    c.as_slice-2.ensures in
     let at = (goal.at.returns-in-Some c).After-moved_triangles-self-inside in
     record {
       accepted = tt;
@@ -123,7 +129,8 @@ returns-in-Some c =
 
 pub returns : goal.returns
 returns c =
-    let same : words_of c.as_slice-2.result.now ≡ words_of c.in_ok-images.images.items = ap words_of c.as_slice-2.ensures in
+    let same : words_of c.as_slice-2.result.now ≡ words_of c.in_ok-images.images.items = ap words_of
+    c.as_slice-2.ensures in
     let at = (goal.at.returns c).After-moved_triangles-self-inside in
     record {
       accepted = (made at, subst (λ (ws : List (List ℤ)). letters_in ws ≤ c.args.cap) same c.in_default.ensures.none);

@@ -8,6 +8,7 @@ abbrev pub invariant-loop-walk : goal.invariant-loop-walk
 invariant-loop-walk l = record {
   can_next : (goal.iterator-loop-walk).can_next l.walk-iterator;
   is_finite : (goal.iterator-loop-walk).is_finite l.walk-iterator;
-  taken : words_of l.words.items ++ map (λ w. w.letters) (into_iter_items l.walk-iterator) ≡ map (λ w. w.letters) l.fn.images.items;
+  taken : words_of l.words.items ++ map (λ w. w.letters) (into_iter_items l.walk-iterator)
+      ≡ map (λ w. w.letters) l.fn.images.items;
   room : l.words.capacity ≡ EDGES;
 }

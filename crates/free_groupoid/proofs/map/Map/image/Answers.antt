@@ -13,6 +13,8 @@ substituted-requires c =
 
 pub returns-clause-walks : goal.returns-clause-walks
 returns-clause-walks c = λ arena sound h walk.
-    let value : ◌≡◌ {A = DualWalk} (record { start = c.vertex.result; letters = c.in_ok-substituted.field-0.items }) (image_walk c.args.self.now c.args.w.now) =
+    let value : ◌≡◌ {A = DualWalk} (record { start = c.vertex.result; letters = c.in_ok-substituted.field-0.items })
+    (image_walk c.args.self.now c.args.w.now) =
     search rules in
-    subst (IsWalkOn (triangulation arena c.args.self.now.target)) (sym value) (c.groupoid_laws.ensures.making.walks arena _ _ sound h walk)
+    subst (IsWalkOn (triangulation arena c.args.self.now.target)) (sym value) (c.groupoid_laws.ensures.making.walks
+    arena _ _ sound h walk)

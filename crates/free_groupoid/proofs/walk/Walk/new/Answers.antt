@@ -8,4 +8,5 @@ loop-i-preserved c =
     let label : IsLabel c.args.tri.now c.index-letters-i.result = search rules in
     subst (λ (t : ℕ). IsWalk c.args.tri.now c.args.start (take (c.loop-i.i + 1) c.args.letters.now) t)
     (sym (c.place-stand.ensures.triangle ∙ ap (triangle_of c.args.tri.now) c.inverse.ensures))
-    (walk_more _ _ _ _ _ _ c.loop-i.invariant c.loop-i-test.true c.index-letters-i.is label (sym c.place.ensures.triangle ∙ c.if-place-stand.false))
+    (walk_more _ _ _ _ _ _ c.loop-i.invariant c.loop-i-test.true c.index-letters-i.is label (sym
+    c.place.ensures.triangle ∙ c.if-place-stand.false))
