@@ -22,10 +22,10 @@ loop-turn-preserved c =
     let now = c.in_ok-append.ensures in
     let before = c.loop-turn.invariant in
     record {
-      closed = loops_joined c.args.s.now.atlas c.loop-turn.whole c.args.path.now c.append.new.self now.joined
+      closed = loops_joined c.args.s.now.atlas c.loop-turn.whole c.args.path.now c.append.new.self now.accepted
           (now.path c.args.s.now.atlas before.closed.within c.requires.within) before.closed c.requires;
       left = ap (λ (z : MovePath). z.moves ++ repeat (c.args.times - (c.loop-turn._turn + 1)) c.args.path.now.moves)
-          now.joined
+          now.accepted
           ∙ once_more c.args.times c.loop-turn._turn c.loop-turn.whole.moves c.args.path.now.moves c.loop-turn-test.true
           ∙ before.left;
     }
