@@ -1,6 +1,6 @@
 -- Maps along paths of moves. A move is undone by the same move backwards: letter by letter by the law of moves, and
 -- each image is reduced; so a path is undone by the way back along it, from its middle outwards.
-use Rattle.std.proofs.Common.{ℕ, ℤ, List, [], ◌∷◌, ◌++◌, ◌≡◌, ◌<◌, refl, sym, ◌∙◌, ap, subst, length, map}
+use Rattle.std.proofs.Common.{get_or, ℕ, ℤ, List, [], ◌∷◌, ◌++◌, ◌≡◌, ◌<◌, refl, sym, ◌∙◌, ap, subst, length, map}
 use Rattle.std.specs.List.{All, flat_map}
 use Rattle.std.proofs.lemmas.List.{get_or-map, length-map}
 use Rattle.ideal_tri.specs.Words.{IsReduced, reduce}
@@ -15,8 +15,7 @@ use Rattle.tri_atlas.specs.Arena.{Arena, MoveHandle, IsArena, triangulation, sou
 use Rattle.tri_atlas.specs.Paths.{Lead, triangle_along}
 use Rattle.free_groupoid.specs.GroupoidMaps.{GroupoidMap, IsMapIn, substitution, vertex_image, reduced_image, followed}
 use Rattle.free_groupoid.specs.GroupoidMaps.{followed_along}
-use Rattle.free_groupoid.proofs.Substituting.{substitution-mapped, substitution-reduced, flat_map-agree}
-use Rattle.free_groupoid.proofs.Substituting.{flat_map-identity}
+use Rattle.free_groupoid.proofs.Substituting.{substitution-mapped, substitution-reduced}
 use Rattle.free_groupoid.proofs.MapsIn.{followed_in}
 
 module _ (labels : LabelLaws) (words : WordLaws) (surface : SurfaceLaws) (mapping : MapLaws) (atlas : AtlasLaws) where
@@ -25,7 +24,7 @@ module _ (labels : LabelLaws) (words : WordLaws) (surface : SurfaceLaws) (mappin
   -- the maps of moves behind a reduced map are the map of the path after it
   map_behind-path : (f : ℤ → List ℤ) (moves : List Move) (x : ℤ) → reduce (f x) ≡ f x
       → map_behind f moves x ≡ after (path_map moves) f x
-  map_behind-path f [] x reduced = sym reduced ∙ ap reduce (sym (flat_map-identity (f x)))
+  map_behind-path f [] x reduced = sym reduced ∙ ap reduce (sym (mapping.substitutions.none (f x)))
   map_behind-path f (m ∷ moves) x reduced =
       map_behind-path (after (image_of_letter m) f) moves x (words.reduction.twice (flat_map (image_of_letter m) (f x)))
       ∙ mapping.substitutions.reduced_before (path_map moves) (flat_map (image_of_letter m) (f x)) (mapping.paths.odd
@@ -33,9 +32,8 @@ module _ (labels : LabelLaws) (words : WordLaws) (surface : SurfaceLaws) (mappin
       ∙ sym (mapping.substitutions.compose (image_of_letter m) (path_map moves) (f x) (mapping.moves.odd m)
       (mapping.paths.odd moves))
       ∙ ap reduce
-      (sym (flat_map-agree (λ y. Unit {0}) (path_map (m ∷ moves)) (after (path_map moves) (image_of_letter m)) (f x) (λ
-      k d below. tt)
-      (λ y u. mapping.paths.cons m moves y)))
+      (sym (mapping.substitutions.agree (path_map (m ∷ moves)) (after (path_map moves) (image_of_letter m)) (f x)
+      (λ k d below. mapping.paths.cons m moves (get_or (f x) k d))))
 
   -- they read the first map at the letter alone
   map_behind-at : (f g : ℤ → List ℤ) (moves : List Move) (x : ℤ) → f x ≡ g x

@@ -9,9 +9,8 @@ use Rattle.std.proofs.Common.{ℕ, ℤ, pos, List, [], ◌∷◌, ◌++◌, ◌�
 use Rattle.std.specs.List.{All, Contains, flat_map}
 use Rattle.std.proofs.lemmas.List.{append-nil}
 use Rattle.std.proofs.lemmas.List.Concat.{flat_map-append}
-use Rattle.ideal_tri.specs.Labels.{inverse}
 use Rattle.ideal_tri.specs.Words.{inverse_word, reduce, cyclic_reduce, IsReduced, IsCyclicallyReduced, IsRotation}
-use Rattle.ideal_tri.specs.Triangulations.{IsWalk, triangle_of}
+use Rattle.ideal_tri.specs.Triangulations.{IsWalk}
 use Rattle.free_groupoid.specs.TestWalks.{root_of, outer_edges, root_of_edge, loop, test_walks}
 use Rattle.free_groupoid.specs.InnerLaws.{IsReducedLoop}
 use Rattle.free_groupoid.specs.inside.InnerPaths.{collapse}
@@ -24,43 +23,10 @@ use Rattle.free_groupoid.proofs.Loops.{loop_closed, collapse-loop}
 use Rattle.free_groupoid.proofs.Telescope.{IsIn, walk_letters}
 use Rattle.free_groupoid.proofs.OuterEdges.{edge_outer}
 use Rattle.free_groupoid.proofs.TestLists.{each_test}
-
--- ---- parts of walks
-
--- a walk through two words
-record SplitWalk (triples : List (List ℤ)) (s : ℕ) (u v : List ℤ) (t : ℕ) : Type 0 where
-  middle : ℕ
-  first : IsWalk triples s u middle
-  second : IsWalk triples middle v t
-
-split_walk : (triples : List (List ℤ)) (s t : ℕ) (u v : List ℤ) → IsWalk triples s (u ++ v) t
-    → SplitWalk triples s u v t
-split_walk triples s t [] v h = record { middle = s; first = refl; second = h }
-split_walk triples s t (x ∷ u) v h =
-    let rest = split_walk triples (triangle_of triples (inverse x)) t u v h.2 in
-    record { middle = rest.middle; first = (h.0, h.1, rest.first); second = rest.second }
-
--- a walk ends in one triangle
-one_end : (triples : List (List ℤ)) (s t r : ℕ) (w : List ℤ) → IsWalk triples s w t → IsWalk triples s w r → t ≡ r
-one_end triples s t r [] h k = sym h ∙ k
-one_end triples s t r (x ∷ w) h k = one_end triples (triangle_of triples (inverse x)) t r w h.2 k.2
+use Rattle.free_groupoid.proofs.Walks.{closed_core}
 
 module _ (triples : List (List ℤ)) (l : Laws triples) where
   -- ---- the cyclic reduction of a closed walk
-
-  -- it is a closed walk from some triangle
-  pub closed_core : (s : ℕ) (w : List ℤ) → IsWalk triples s w s → (t : ℕ) × IsWalk triples t (cyclic_reduce w) t
-  closed_core s w walk =
-      let (p, shape) = l.known.words.cyclic.shape w in
-      let reduced : IsWalk triples s (p ++ (cyclic_reduce w ++ inverse_word p)) s =
-      subst (λ (z : List ℤ). IsWalk triples s z s) shape (l.walks.reduced s s w walk) in
-      let outer = split_walk triples s s p (cyclic_reduce w ++ inverse_word p) reduced in
-      let inner = split_walk triples outer.middle s (cyclic_reduce w) (inverse_word p) outer.second in
-      let back : IsWalk triples s p inner.middle =
-      subst (λ (z : List ℤ). IsWalk triples s z inner.middle) (l.known.words.inverses.twice p)
-      (l.walks.back inner.middle s (inverse_word p) inner.second) in
-      let same : inner.middle ≡ outer.middle = one_end triples s inner.middle outer.middle p back outer.first in
-      (outer.middle, subst (λ (i : ℕ). IsWalk triples outer.middle (cyclic_reduce w) i) same inner.first)
 
   -- its letters are of the component where the walk starts
   pub core_letters : (r s t : ℕ) (w : List ℤ) → root_of triples s ≡ r → IsWalk triples s w t
@@ -122,7 +88,7 @@ module _ (triples : List (List ℤ)) (l : Laws triples) where
       → flat_map (collapse triples r) w ≡ x ∷ rest
       → IsReduced (x ∷ rest) → IsReducedLoop triples (cyclic_reduce w)
   reduced_loop r s w x rest walk collapsed reduced =
-      go (cyclic_reduce w) refl (closed_core s w walk) (l.known.words.cyclic.is_reduced w)
+      go (cyclic_reduce w) refl (closed_core triples l.walks l.known.words s w walk) (l.known.words.cyclic.is_reduced w)
     where
       go : (v : List ℤ) → cyclic_reduce w ≡ v → (t : ℕ) × IsWalk triples t (cyclic_reduce w) t
           → IsCyclicallyReduced (cyclic_reduce w)

@@ -17,7 +17,7 @@ use Rattle.tri_atlas.specs.Paths.{MovePath, IsPathIn, moves_of, triangle_along}
 use Rattle.free_groupoid.specs.Walks.{DualWalk, IsWalkOn}
 use Rattle.free_groupoid.specs.GroupoidMaps.{GroupoidMap, IsMapIn, substitution, vertex_image, reduced_image}
 use Rattle.free_groupoid.specs.GroupoidMaps.{identity_map, followed_along, composed, image_walk}
-use Rattle.free_groupoid.proofs.Substituting.{substitution-odd, substitution-mapped, flat_map-agree}
+use Rattle.free_groupoid.proofs.Substituting.{substitution-odd, substitution-mapped}
 use Rattle.free_groupoid.proofs.MapsIn.{identity_in, identity_letter, identity_triangle}
 use Rattle.free_groupoid.proofs.Along.{along_letter, along_triangle, along_source, along_target, along_many}
 use Rattle.free_groupoid.proofs.Along.{along_triangles}
@@ -49,9 +49,9 @@ module _ (labels : LabelLaws) (words : WordLaws) (surface : SurfaceLaws) (mappin
       (get_or-map (vertex_image g) f.triangles w.start 0 0 (subst (λ (n : ℕ). w.start < n) (sym h.one_per_triangle)
       walk.start_in))
       (ap reduce
-      (flat_map-agree (λ y. Unit {0}) (substitution (composed f g).images) (after (substitution g.images) (substitution
-      f.images)) w.letters
-      (λ k d below. tt) (λ x u. composed_letter f g x))
+      (mapping.substitutions.agree (substitution (composed f g).images)
+      (after (substitution g.images) (substitution f.images)) w.letters
+      (λ k d below. composed_letter f g (get_or w.letters k d)))
       ∙ mapping.substitutions.compose (substitution f.images) (substitution g.images) w.letters
       (substitution-odd words.inverses f.images) (substitution-odd words.inverses g.images)
       ∙ sym (mapping.substitutions.reduced_before (substitution g.images) (flat_map (substitution f.images) w.letters)
@@ -115,11 +115,10 @@ module _ (labels : LabelLaws) (words : WordLaws) (surface : SurfaceLaws) (mappin
             (substitution step.images))) inside in
             get_or-map (reduced_image (substitution step.images)) f.images n [] [] place
             ∙ ap reduce
-            (flat_map-agree (IsLabel (triangulation arena path.start)) (substitution step.images) (path_map (moves_of
-            arena path)) (get_or f.images n [])
+            (mapping.substitutions.agree (substitution step.images) (path_map (moves_of arena path)) (get_or f.images n [])
+            (λ k d below. path_letter path (get_or (get_or f.images n []) k d) p
             (subst (λ (t : ℕ). All (IsLabel (triangulation arena t)) (get_or f.images n [])) (sym follows)
-            (image_labels arena f h n [] place))
-            (λ x label. path_letter path x p label))
+            (image_labels arena f h n [] place) k d below)))
             ∙ sym (along_letter labels words surface mapping atlas arena f path.moves (pos n) h.reduced)
 
         same_triangles : (k : ℕ) → k < length (map (vertex_image step) f.triangles)

@@ -1,12 +1,12 @@
 -- The cyclic reduction in place: letters at the two ends that are inverse to each other are counted from outside, and
 -- what stands between them is kept.
-use Rattle.std.proofs.Common.{ℕ, zero, suc, ℤ, pos, negsuc, Bool, true, false, cond, List, [], ◌∷◌, ◌++◌, ◌≡◌, ◌≢◌, ◌+◌}
+use Rattle.std.proofs.Common.{ℕ, zero, suc, ℤ, pos, negsuc, Bool, cond, List, [], ◌∷◌, ◌++◌, ◌≡◌, ◌≢◌, ◌+◌}
 use Rattle.std.proofs.Common.{◌-◌, ◌*◌, ◌<◌, ◌≤◌, refl, sym, ◌∙◌, ap, arith, length, take, drop, get_or}
-use Rattle.std.specs.Ordering.{int_eq}
 use Rattle.std.proofs.lemmas.Bool.Decides.{Decides-int_eq}
 use Rattle.std.proofs.lemmas.List.{take_more, drop_more, get_or-drop, take_at, take_all, drop-take, length-take-le}
 use Rattle.std.proofs.lemmas.List.{length-drop}
 use Rattle.ideal_tri.specs.Labels.{inverse}
+use Rattle.ideal_tri.specs.LabelLaws.{LabelLaws}
 use Rattle.ideal_tri.specs.Words.{reduce, last_of, but_last, strip, cyclic_reduce}
 
 -- what is left of a word without so many letters at each end
@@ -47,13 +47,6 @@ but_last-push y [] = refl
 but_last-push y (x ∷ []) = refl
 but_last-push y (x ∷ (z ∷ u)) = ap (λ (w : List ℤ). x ∷ w) (but_last-push y (z ∷ u))
 
-not_equal : (x y : ℤ) → x ≢ y → int_eq x y ≡ false
-not_equal x y n = go (int_eq x y) refl
-  where
-    go : (b : Bool) → int_eq x y ≡ b → int_eq x y ≡ false
-    go true e = absurd (n ((Decides-int_eq x y).0 e))
-    go false e = e
-
 strip-peels : (n : ℕ) (x y : ℤ) (u : List ℤ) → y ≡ inverse x → strip (suc n) (x ∷ (u ++ (y ∷ []))) ≡ strip n u
 unfolding strip
 strip-peels n x y u e =
@@ -61,11 +54,11 @@ strip-peels n x y u e =
     ((Decides-int_eq (last_of x (u ++ (y ∷ []))) (inverse x)).1 (last_of-push x y u ∙ e))
     ∙ ap (strip n) (but_last-push y u)
 
-strip-stays : (n : ℕ) (x y : ℤ) (u : List ℤ) → y ≢ inverse x → strip (suc n) (x ∷ (u ++ (y ∷ []))) ≡ x ∷ (u ++ (y ∷ []))
+strip-stays : LabelLaws → (n : ℕ) (x y : ℤ) (u : List ℤ) → y ≢ inverse x → strip (suc n) (x ∷ (u ++ (y ∷ []))) ≡ x ∷ (u ++ (y ∷ []))
 unfolding strip
-strip-stays n x y u e =
+strip-stays l n x y u e =
     ap (λ (b : Bool). cond b (strip n (but_last (u ++ (y ∷ [])))) (x ∷ (u ++ (y ∷ []))))
-    (not_equal (last_of x (u ++ (y ∷ []))) (inverse x) (λ f. e (sym (last_of-push x y u) ∙ f)))
+    (l.test_other (last_of x (u ++ (y ∷ []))) (inverse x) (λ f. e (sym (last_of-push x y u) ∙ f)))
 
 strip-one : (n : ℕ) (x : ℤ) → strip n (x ∷ []) ≡ x ∷ []
 unfolding strip
@@ -103,13 +96,13 @@ one_more_stripped w k x y h more is_x is_y opposite = record {
       ∙ strip-peels (length w - (k + 1)) x y (middle (k + 1) w) opposite;
 }
 
-pub ends_apart : (w : List ℤ) (k : ℕ) (x y : ℤ) → AreStripped w k → 2 * k + 1 < length w → x ≡ get_or w k x
+pub ends_apart : LabelLaws → (w : List ℤ) (k : ℕ) (x y : ℤ) → AreStripped w k → 2 * k + 1 < length w → x ≡ get_or w k x
     → y ≡ get_or w (length w - 1 - k) y → y ≢ inverse x → strip (length w) w ≡ middle k w
-ends_apart w k x y h more is_x is_y apart =
+ends_apart l w k x y h more is_x is_y apart =
     h.rest
     ∙ ap (λ (n : ℕ). strip n (middle k w)) (let fuel : length w - k ≡ suc (length w - (k + 1)) = omega arith in fuel)
     ∙ ap (strip (suc (length w - (k + 1)))) (middle-more k w x y more is_x is_y)
-    ∙ strip-stays (length w - (k + 1)) x y (middle (k + 1) w) apart
+    ∙ strip-stays l (length w - (k + 1)) x y (middle (k + 1) w) apart
     ∙ sym (middle-more k w x y more is_x is_y)
 
 pub all_stripped : (w : List ℤ) (k : ℕ) → AreStripped w k → length w < 2 * k + 2 → strip (length w) w ≡ middle k w

@@ -6,8 +6,9 @@ use Rattle.std.proofs.lemmas.List.{append-nil, take_all, take_more, take_more_se
 use Rattle.std.proofs.lemmas.List.{length-set}
 use Rattle.ideal_tri.specs.Labels.{inverse}
 use Rattle.ideal_tri.specs.Words.{IsReduced, reduce}
+use Rattle.ideal_tri.specs.LabelLaws.{LabelLaws}
 use Rattle.ideal_tri.specs.WordLaws.{ReductionLaws}
-use Rattle.free_groupoid.proofs.Words.{inverse-inverse, IsReduced-front, IsReduced-append_letter, reduce-pair}
+use Rattle.free_groupoid.proofs.Words.{IsReduced-append_letter, reduce-pair}
 
 pub record IsReducedUpTo (start now : List ℤ) (top i : ℕ) : Type 0 where
   pub within : top ≤ i
@@ -33,17 +34,17 @@ next_letter : (now : List ℤ) (i : ℕ) (x : ℤ) → i < length now → x ≡ 
 next_letter now i x inside is_x = drop_more now i x inside ∙ ap (λ (z : ℤ). z ∷ drop (i + 1) now) (sym is_x)
 
 -- the next letter x cancels the last one that was kept
-pub cancelled : ReductionLaws → (start now : List ℤ) (top i : ℕ) (x y : ℤ) → IsReducedUpTo start now top i → 0 < top
+pub cancelled : LabelLaws → ReductionLaws → (start now : List ℤ) (top i : ℕ) (x y : ℤ) → IsReducedUpTo start now top i → 0 < top
     → i < length now
     → x ≡ get_or now i x → y ≡ get_or now (top - 1) y → y ≡ inverse x → IsReducedUpTo start now (top - 1) (i + 1)
-cancelled r start now top i x y h above inside is_x is_y opposite =
+cancelled l r start now top i x y h above inside is_x is_y opposite =
     let within : top ≤ i = h.within in
     let kept : take top now ≡ take (top - 1) now ++ (y ∷ []) = last_kept start now top i y h above inside is_y in
-    let x_is : x ≡ inverse y = sym (inverse-inverse x) ∙ ap inverse (sym opposite) in
+    let x_is : x ≡ inverse y = sym (l.twice x) ∙ ap inverse (sym opposite) in
     record {
       within = omega arith;
       same_length = h.same_length;
-      reduced = IsReduced-front (take (top - 1) now) (y ∷ []) (subst IsReduced kept h.reduced);
+      reduced = r.front (take (top - 1) now) (y ∷ []) (subst IsReduced kept h.reduced);
       same_reduction =
           sym (reduce-pair r (take (top - 1) now) y (drop (i + 1) now))
           ∙ ap (λ (z : ℤ). reduce (take (top - 1) now ++ (y ∷ (z ∷ drop (i + 1) now)))) (sym x_is)
@@ -82,14 +83,14 @@ pushed_first start now top i x h inside is_x none =
     (subst (λ (k : ℕ). IsReduced (take k now ++ (x ∷ []))) (sym none) tt)
 
 -- the last letter y that was kept does not cancel x
-pub pushed_on : (start now : List ℤ) (top i : ℕ) (x y : ℤ) → IsReducedUpTo start now top i → 0 < top → i < length now
+pub pushed_on : LabelLaws → (start now : List ℤ) (top i : ℕ) (x y : ℤ) → IsReducedUpTo start now top i → 0 < top → i < length now
     → x ≡ get_or now i x → y ≡ get_or now (top - 1) y → y ≢ inverse x
     → IsReducedUpTo start (set now top x) (top + 1) (i + 1)
-pushed_on start now top i x y h above inside is_x is_y apart =
+pushed_on l start now top i x y h above inside is_x is_y apart =
     let kept : take top now ≡ take (top - 1) now ++ (y ∷ []) = last_kept start now top i y h above inside is_y in
     pushed start now top i x h inside is_x
     (subst (λ (z : List ℤ). IsReduced (z ++ (x ∷ []))) (sym kept)
-    (IsReduced-append_letter (take (top - 1) now) y x (subst IsReduced kept h.reduced) apart))
+    (IsReduced-append_letter l (take (top - 1) now) y x (subst IsReduced kept h.reduced) apart))
 
 -- all letters were read
 pub at_end : ReductionLaws → (start now : List ℤ) (top i : ℕ) → IsReducedUpTo start now top i → length start ≤ i
@@ -112,13 +113,13 @@ split_last w n y is_n some is_y =
     ∙ take_more w (n - 1) y (omega arith)
     ∙ ap (λ (z : ℤ). take (n - 1) w ++ (z ∷ [])) (sym is_y)
 
-pub push_cancels : ReductionLaws → (w : List ℤ) (n : ℕ) (x y : ℤ) → IsReduced w → n ≡ length w → 0 < n
+pub push_cancels : LabelLaws → ReductionLaws → (w : List ℤ) (n : ℕ) (x y : ℤ) → IsReduced w → n ≡ length w → 0 < n
     → y ≡ get_or w (n - 1) y → y ≡ inverse x
     → take (n - 1) w ≡ reduce (w ++ (x ∷ []))
-push_cancels r w n x y h is_n some is_y opposite =
+push_cancels l r w n x y h is_n some is_y opposite =
     let split : w ≡ take (n - 1) w ++ (y ∷ []) = split_last w n y is_n some is_y in
-    let x_is : x ≡ inverse y = sym (inverse-inverse x) ∙ ap inverse (sym opposite) in
-    sym (r.fixed (take (n - 1) w) (IsReduced-front (take (n - 1) w) (y ∷ []) (subst IsReduced split h)))
+    let x_is : x ≡ inverse y = sym (l.twice x) ∙ ap inverse (sym opposite) in
+    sym (r.fixed (take (n - 1) w) (r.front (take (n - 1) w) (y ∷ []) (subst IsReduced split h)))
     ∙ ap reduce (sym (append-nil (take (n - 1) w)))
     ∙ sym (reduce-pair r (take (n - 1) w) y [])
     ∙ ap (λ (z : ℤ). reduce (take (n - 1) w ++ (y ∷ (z ∷ [])))) (sym x_is)
@@ -129,11 +130,11 @@ pub push_first : ReductionLaws → (w : List ℤ) (x : ℤ) → length w ≡ 0 �
 push_first r [] x none = refl
 push_first r (y ∷ w) x none = absurd (omega arith)
 
-pub push_on : ReductionLaws → (w : List ℤ) (n : ℕ) (x y : ℤ) → IsReduced w → n ≡ length w → 0 < n
+pub push_on : LabelLaws → ReductionLaws → (w : List ℤ) (n : ℕ) (x y : ℤ) → IsReduced w → n ≡ length w → 0 < n
     → y ≡ get_or w (n - 1) y → y ≢ inverse x
     → w ++ (x ∷ []) ≡ reduce (w ++ (x ∷ []))
-push_on r w n x y h is_n some is_y apart =
+push_on l r w n x y h is_n some is_y apart =
     let split : w ≡ take (n - 1) w ++ (y ∷ []) = split_last w n y is_n some is_y in
     sym (r.fixed (w ++ (x ∷ []))
     (subst (λ (z : List ℤ). IsReduced (z ++ (x ∷ []))) (sym split)
-    (IsReduced-append_letter (take (n - 1) w) y x (subst IsReduced split h) apart)))
+    (IsReduced-append_letter l (take (n - 1) w) y x (subst IsReduced split h) apart)))

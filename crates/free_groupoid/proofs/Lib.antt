@@ -42,6 +42,7 @@ pub mod Growing
 pub mod Planting
 pub mod ForestNodes
 pub mod ForestReads
+pub mod TestedMaps
 pub mod TestedWalks
 pub mod ForestLaws
 pub mod Collapse

@@ -1,14 +1,14 @@
 -- A list of words in the place of letters: a substitution, and the same list with each word mapped and reduced is the
 -- substitution followed by the map. Two substitutions that agree on the letters of a word agree on the word.
-use Rattle.std.proofs.Common.{ℕ, zero, suc, ℤ, pos, negsuc, List, [], ◌∷◌, ◌++◌, ◌≡◌, ◌<◌, ◌≤◌, ◌⊎◌, inl, inr, refl}
+use Rattle.std.proofs.Common.{ℕ, zero, suc, ℤ, pos, negsuc, List, [], ◌∷◌, ◌≡◌, ◌<◌, ◌≤◌, ◌⊎◌, inl, inr, refl}
 use Rattle.std.proofs.Common.{sym, ◌∙◌, ap, length, map, get_or}
 use Rattle.std.specs.List.{All, flat_map}
 use Rattle.std.proofs.lemmas.List.{get_or_past}
-use Rattle.std.proofs.lemmas.List.Elements.{All-head, All-tail, All-map}
+use Rattle.std.proofs.lemmas.List.Elements.{All-map}
 use Rattle.std.proofs.lemmas.Bool.{cases_lt}
 use Rattle.ideal_tri.specs.Words.{inverse_word, IsReduced, reduce}
 use Rattle.ideal_tri.specs.WordLaws.{InverseLaws, ReductionLaws}
-use Rattle.tri_atlas.specs.Maps.{IsOdd, identity, after}
+use Rattle.tri_atlas.specs.Maps.{IsOdd, after}
 use Rattle.tri_atlas.specs.MapLaws.{SubstitutionLaws}
 use Rattle.free_groupoid.specs.GroupoidMaps.{substitution, reduced_image}
 
@@ -53,16 +53,3 @@ pub substitution-reduced : ReductionLaws → (images : List (List ℤ)) (x : ℤ
 substitution-reduced r images (pos n) all = reduced_word r images n all
 substitution-reduced r images (negsuc n) all = r.inverse (get_or images n [])
     ∙ ap inverse_word (reduced_word r images n all)
-
--- ---- substitutions that agree
-
-pub flat_map-agree : (P : ℤ → Type 0) (f g : ℤ → List ℤ) (w : List ℤ) → All P w → ((x : ℤ) → P x → f x ≡ g x)
-    → flat_map f w ≡ flat_map g w
-flat_map-agree P f g [] all same = refl
-flat_map-agree P f g (x ∷ w) all same =
-    ap (λ (u : List ℤ). u ++ flat_map f w) (same x (All-head P x w all))
-    ∙ ap (λ (u : List ℤ). g x ++ u) (flat_map-agree P f g w (All-tail P x w all) same)
-
-pub flat_map-identity : (w : List ℤ) → flat_map identity w ≡ w
-flat_map-identity [] = refl
-flat_map-identity (x ∷ w) = ap (λ (u : List ℤ). x ∷ u) (flat_map-identity w)

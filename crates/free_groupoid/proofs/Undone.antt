@@ -1,6 +1,6 @@
 -- A move is undone by the same move backwards: on letters by the law of moves, and on each image since it is a reduced
 -- walk. So a path is undone by the way back along it, from its middle outwards.
-use Rattle.std.proofs.Common.{ℕ, ℤ, Bool, true, false, List, [], ◌∷◌, ◌++◌, ◌≡◌, ◌<◌, refl, sym, ◌∙◌, ap, subst}
+use Rattle.std.proofs.Common.{ℕ, ℤ, List, [], ◌∷◌, ◌++◌, ◌≡◌, ◌<◌, refl, sym, ◌∙◌, ap, subst}
 use Rattle.std.proofs.Common.{append_assoc, length, map, reverse, get_or}
 use Rattle.std.specs.List.{All, flat_map}
 use Rattle.std.proofs.lemmas.List.{reverse-append}
@@ -18,28 +18,9 @@ use Rattle.tri_atlas.specs.Arena.{Arena, MoveHandle, IsArena, IsMoveIn, IsTriIn,
 use Rattle.tri_atlas.specs.Arena.{step_of, back}
 use Rattle.tri_atlas.specs.Paths.{Lead}
 use Rattle.free_groupoid.specs.GroupoidMaps.{GroupoidMap, IsMapIn, reduced_image, followed, followed_along}
-use Rattle.free_groupoid.proofs.Substituting.{flat_map-agree, flat_map-identity}
 use Rattle.free_groupoid.proofs.Entries.{image_labels, target_images}
 use Rattle.free_groupoid.proofs.MapsIn.{followed_in}
 use Rattle.free_groupoid.proofs.Along.{followed_along-append}
-
--- ---- a move and the same move backwards
-
-source_of-back : (arena : Arena) (m : MoveHandle) → source_of arena (back m) ≡ target_of arena m
-source_of-back arena m = by_direction m.backwards
-  where
-    by_direction : (b : Bool) → let way : MoveHandle = record { number = m.number; backwards = b } in
-        source_of arena (back way) ≡ target_of arena way
-    by_direction true = refl
-    by_direction false = refl
-
-target_of-back : (arena : Arena) (m : MoveHandle) → target_of arena (back m) ≡ source_of arena m
-target_of-back arena m = by_direction m.backwards
-  where
-    by_direction : (b : Bool) → let way : MoveHandle = record { number = m.number; backwards = b } in
-        target_of arena (back way) ≡ source_of arena way
-    by_direction true = refl
-    by_direction false = refl
 
 -- maps with equal parts are equal
 pub map_equal : (source source' target target' : ℕ) (images images' : List (List ℤ)) (triangles triangles' : List ℕ)
@@ -86,16 +67,15 @@ module _ (labels : LabelLaws) (words : WordLaws) (surface : SurfaceLaws) (mappin
       ∙ sym (mapping.substitutions.compose (image_of_letter m) (image_of_letter (back_of m)) w (mapping.moves.odd m)
       (mapping.moves.odd (back_of m)))
       ∙ ap reduce
-      (flat_map-agree (IsLabel before) (after (image_of_letter (back_of m)) (image_of_letter m)) identity w all
-      (λ x label. mapping.moves.undo before target m x b t move label)
-      ∙ flat_map-identity w)
+      (mapping.substitutions.agree (after (image_of_letter (back_of m)) (image_of_letter m)) identity w
+      (λ k d inside. mapping.moves.undo before target m (get_or w k d) b t move (all k d inside))
+      ∙ mapping.substitutions.none w)
       ∙ words.reduction.fixed w reduced
 
   followed_back : (f : GroupoidMap) (m : MoveHandle) → IsMapIn arena f → IsMoveIn arena m → source_of arena m ≡ f.target
       → followed arena (followed arena f m) (back m) ≡ f
   followed_back f m h here follows =
-      map_equal f.source f.source (target_of arena (back m)) f.target _ f.images _ f.triangles refl (target_of-back
-      arena m ∙ follows)
+      map_equal f.source f.source (target_of arena (back m)) f.target _ f.images _ f.triangles refl (atlas.handles.back_target arena m ∙ follows)
       images_back triangles_back
     where
       before : List (List ℤ)
@@ -132,10 +112,10 @@ module _ (labels : LabelLaws) (words : WordLaws) (surface : SurfaceLaws) (mappin
       triangles_back =
           ap (λ (s : ℕ). map (triangle_image (triangulation arena s) (triangulation arena (target_of arena (back m)))
           (step_of arena (back m)))
-          (map (triangle_image before target step) f.triangles)) (source_of-back arena m)
+          (map (triangle_image before target step) f.triangles)) (atlas.handles.back_source arena m)
           ∙ ap (λ (t : ℕ). map (triangle_image target (triangulation arena t) (step_of arena (back m))) (map
           (triangle_image before target step) f.triangles))
-          (target_of-back arena m)
+          (atlas.handles.back_target arena m)
           ∙ ap (λ (n : Move). map (triangle_image target before n) (map (triangle_image before target step)
           f.triangles)) (atlas.handles.back arena m sound here)
           ∙ map_undone (triangle_image before target step) (triangle_image target before (back_of step)) f.triangles

@@ -42,3 +42,6 @@ pub use letter::{LetterImage, move_image};
 pub use map::{Map, MapError};
 pub use test_list::test_walks;
 pub use walk::{Walk, WalkError, is_peripheral, is_rotation};
+
+#[cfg(test)]
+mod tests;

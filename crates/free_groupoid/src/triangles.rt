@@ -9,7 +9,7 @@ ghost use Rattle.free_groupoid.specs.Walks.{IsWalkOn};
 
 use crate::letter::relabelled;
 use crate::walk::Walk;
-use ideal_tri::{EDGES, Label, Tri, relabelling_laws, surface_laws};
+use ideal_tri::{EDGES, Label, Tri, label_laws, relabelling_laws, surface_laws};
 use tri_atlas::Step;
 
 /// The most triangles of a triangulation: two for each three edges.
@@ -117,6 +117,7 @@ fn end_of(tri: &Tri, walk: &Walk) -> u32
     requires { (t : ℕ) × IsWalk tri.now walk.now.start walk.now.letters t }
     ensures { (t : ℕ) → IsWalk tri.now walk.now.start walk.now.letters t → result ≡ t }
 {
+    label_laws();
     match walk.letters.last() {
         Some(x) => tri.place(x.inverse()).0,
         None => walk.start,

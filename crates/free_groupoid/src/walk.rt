@@ -121,6 +121,7 @@ fn turns(tri: &Tri, letters: &[Label], on: bool) -> bool
     requires { All (IsLabel tri.now) letters.now }
     ensures { IsTrue result ↔ ((letters.now ≢ []) × TurnsEach tri.now on letters.now) }
 {
+    word_laws();
     let count = letters.len();
     if count == 0 {
         return false;

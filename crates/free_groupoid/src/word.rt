@@ -3,12 +3,13 @@ ghost use Rattle.std.specs.Prelude.{◌≡◌, ◌↔◌, ◌≤◌, ◌-◌, �
 ghost use Rattle.std.specs.Prelude.{IsTrue, OnOk};
 ghost use Rattle.ideal_tri.specs.Words.{reduce, cyclic_reduce, strip, IsReduced, IsRotation};
 
-use ideal_tri::{Label, Memory, word_laws};
+use ideal_tri::{Label, Memory, label_laws, word_laws};
 
 /// Reduces a word in place: no letter is left beside its inverse.
 pub(crate) fn reduce(letters: &mut Vec<Label>)
     ensures { letters.new.items ≡ reduce letters.old.items }
 {
+    label_laws();
     word_laws();
     let count = letters.len();
     let mut top = 0;
@@ -42,6 +43,7 @@ fn matching_ends(letters: &[Label]) -> usize
     ensures between { strip (length letters.now) letters.now
         ≡ take (length letters.now - 2 * result) (drop result letters.now) }
 {
+    label_laws();
     let count = letters.len();
     let mut ends = 0;
     while ends < count / 2 && letters[count - 1 - ends] == letters[ends].inverse() {
@@ -75,6 +77,7 @@ pub(crate) fn push_reduced(word: &mut Vec<Label>, x: Label) -> Result<(), Memory
     ensures value { OnOk result (word.new.items ≡ reduce (word.old.items ++ x ∷ [])) }
     ensures reduced { OnOk result (IsReduced word.new.items) }
 {
+    label_laws();
     word_laws();
     let count = word.len();
     if count > 0 && word[count - 1] == x.inverse() {

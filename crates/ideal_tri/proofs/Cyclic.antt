@@ -11,7 +11,7 @@
 -- this, letter by letter, rotations and conjugates of a word have the same cyclic reduction up to rotation.
 -- Conversely, where u = p (a b) p⁻¹ and v = r (b a) r⁻¹, the word p a r⁻¹ conjugates u to v.
 use Rattle.std.proofs.Common.{ℕ, ℤ, zero, suc, Bool, cond, List, [], ◌∷◌, ◌++◌, ◌≡◌, ◌≢◌, ◌≤◌, inl, inr, refl, sym, ◌∙◌}
-use Rattle.std.proofs.Common.{ap, subst, append_assoc, arith, length, length-append}
+use Rattle.std.proofs.Common.{ap, subst, append_assoc, arith, length, length-append, get_or}
 use Rattle.std.specs.List.{All}
 use Rattle.std.proofs.lemmas.List.{append-nil}
 use Rattle.std.proofs.lemmas.List.Elements.{All-nil, All-cons, All-head, All-tail}
@@ -37,6 +37,10 @@ ends_in_last x (y ∷ w) = ap (λ (z : List ℤ). x ∷ z) (ends_in_last y w)
 pub last_of-append : (x : ℤ) (w : List ℤ) (z : ℤ) → last_of x (w ++ (z ∷ [])) ≡ z
 last_of-append x [] z = refl
 last_of-append x (y ∷ w) z = last_of-append y w z
+
+pub last_of-read : (x : ℤ) (w : List ℤ) (d : ℤ) → last_of x w ≡ get_or (x ∷ w) (length w) d
+last_of-read x [] d = refl
+last_of-read x (y ∷ w) d = last_of-read y w d
 
 pub but_last-append : (w : List ℤ) (z : ℤ) → but_last (w ++ (z ∷ [])) ≡ w
 but_last-append [] z = refl

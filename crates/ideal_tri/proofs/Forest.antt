@@ -21,7 +21,7 @@ use Rattle.ideal_tri.proofs.Triangles.{triangle_laws}
 use Rattle.ideal_tri.proofs.Reaching.{IsClosed, reached_marked, marked, still_marked, unmarked, none_marked}
 use Rattle.ideal_tri.proofs.Numbering.{passing-le, passing-yes, one_or_none}
 use Rattle.ideal_tri.proofs.Components.{is_first_triangle, first_if_none}
-use Rattle.ideal_tri.proofs.Turning.{label_of_rank-rank, rank_below, label_below}
+use Rattle.ideal_tri.proofs.Order.{label_of_rank-rank, rank_below, label_below}
 use Rattle.ideal_tri.proofs.Naming.{IsVertexwise, IsJoined, mark_one, none_unmarked}
 use Rattle.ideal_tri.proofs.Trees.{IsMarked, Grown, IsCrossing, marked_or_free, not_both, grow}
 use Rattle.ideal_tri.proofs.Planting.{more_trees, plant}

@@ -5,6 +5,7 @@ use Rattle.std.proofs.lemmas.Bool.Decides.{Decides-int_eq, not_from_Decides}
 use Rattle.ideal_tri.specs.Labels.{inverse, edge_of, with_sign_of}
 use Rattle.ideal_tri.specs.Triangulations.{IsLabel}
 use Rattle.ideal_tri.specs.LabelLaws.{LabelLaws}
+use Rattle.ideal_tri.proofs.Order.{order_laws}
 
 pub inverse-inverse : (x : ℤ) → inverse (inverse x) ≡ x
 inverse-inverse (pos n) = refl
@@ -70,4 +71,5 @@ label_laws = record {
   same_or_not = same_or_not;
   test_same = int_eq-same;
   test_other = int_eq-other;
+  order = order_laws;
 }

@@ -8,6 +8,7 @@ pub mod Nearness
 pub mod Components
 pub mod Laying
 pub mod Refusals
+pub mod Order
 pub mod Labels
 pub mod Reduction
 pub mod Rotations

@@ -5,55 +5,20 @@
 -- at most 2 ζ steps, and each corner of the vertex is met within these. So to lie at one vertex is symmetric, and the
 -- least of the 2 ζ corners from x on is the least corner of the vertex: it is the same for all corners there, and it
 -- is its own.
-use Rattle.std.proofs.Common.{ℕ, zero, suc, ℤ, pos, negsuc, Bool, cond, eqb, List, [], ◌∷◌, ◌≡◌, ◌≢◌, ◌≤◌, ◌<◌, ◌+◌}
-use Rattle.std.proofs.Common.{◌-◌, ◌*◌, ◌/◌, ◌%◌, ◌⊎◌, inl, inr, refl, sym, ◌∙◌, ap, subst, arith, length, get_or}
+use Rattle.std.proofs.Common.{ℕ, zero, suc, ℤ, pos, Bool, cond, List, [], ◌∷◌, ◌≡◌, ◌≢◌, ◌≤◌, ◌<◌, ◌+◌}
+use Rattle.std.proofs.Common.{◌-◌, ◌*◌, ◌⊎◌, inl, inr, refl, sym, ◌∙◌, ap, subst, arith, length, get_or}
 use Rattle.std.specs.List.{All}
 use Rattle.std.proofs.lemmas.Bool.{cases_lt, lt-ltb, le-ltb}
-use Rattle.std.proofs.lemmas.Bool.Decides.{eqb_tells}
 use Rattle.std.proofs.lemmas.List.Elements.{All-from_get_or}
 use Rattle.ideal_tri.specs.Labels.{inverse, edge_of}
 use Rattle.ideal_tri.specs.Triangulations.{IsLabel, edge_count, next}
 use Rattle.ideal_tri.specs.Refusals.{IsDistinct}
 use Rattle.ideal_tri.specs.SurfaceLaws.{TriangleLaws}
-use Rattle.ideal_tri.specs.Vertices.{rank, label_of_rank, corner_step, corner_after, IsSameVertex, least_label}
+use Rattle.ideal_tri.specs.Vertices.{rank, corner_step, corner_after, IsSameVertex, least_label}
 use Rattle.ideal_tri.specs.Vertices.{least_within, least_corner}
 use Rattle.ideal_tri.proofs.Labels.{inverse-inverse, inverse_label, same_or_not}
 use Rattle.ideal_tri.proofs.Counting.{no_more_than_labels}
-
--- ---- the order of labels
-
-pub rank-label_of_rank : (k : ℕ) → rank (label_of_rank k) ≡ k
-rank-label_of_rank k =
-    elim (eqb_tells (k % 2) 0) [
-      | inl h ↦
-          (let even : k % 2 ≡ 0 = h.1 in
-          ap (λ (b : Bool). rank (cond b (pos (k / 2)) (negsuc (k / 2)))) h.0 ∙ omega arith)
-      | inr h ↦
-          (let odd : k % 2 ≢ 0 = h.1 in
-          ap (λ (b : Bool). rank (cond b (pos (k / 2)) (negsuc (k / 2)))) h.0 ∙ omega arith)
-    ]
-
-pub label_of_rank-rank : (x : ℤ) → label_of_rank (rank x) ≡ x
-label_of_rank-rank (pos n) =
-    let even : (2 * n) % 2 ≡ 0 = omega arith in
-    ap (λ (m : ℕ). cond (eqb m 0) (pos (2 * n / 2)) (negsuc (2 * n / 2))) even ∙ ap pos (omega arith)
-label_of_rank-rank (negsuc n) =
-    let odd : (2 * n + 1) % 2 ≡ 1 = omega arith in
-    ap (λ (m : ℕ). cond (eqb m 0) (pos ((2 * n + 1) / 2)) (negsuc ((2 * n + 1) / 2))) odd ∙ ap negsuc (omega arith)
-
-pub rank-injective : (x y : ℤ) → rank x ≡ rank y → x ≡ y
-rank-injective x y e = sym (label_of_rank-rank x) ∙ ap label_of_rank e ∙ label_of_rank-rank y
-
-pub rank_below : (x : ℤ) (n : ℕ) → edge_of x < n → rank x < 2 * n
-rank_below (pos m) n h = omega arith
-rank_below (negsuc m) n h = omega arith
-
-below_of_rank : (x : ℤ) (n : ℕ) → rank x < 2 * n → edge_of x < n
-below_of_rank (pos m) n h = omega arith
-below_of_rank (negsuc m) n h = omega arith
-
-pub label_below : (k n : ℕ) → k < 2 * n → edge_of (label_of_rank k) < n
-label_below k n h = below_of_rank (label_of_rank k) n (omega (arith, rank-label_of_rank k))
+use Rattle.ideal_tri.proofs.Order.{rank-injective}
 
 -- ---- the corner step
 

@@ -33,7 +33,7 @@ use Rattle.ideal_tri.proofs.Counting.{at_most_once}
 use Rattle.ideal_tri.proofs.Triangles.{times, label_of_counted, triangle_laws}
 use Rattle.ideal_tri.proofs.Triples.{HasTriple, triple_at}
 use Rattle.ideal_tri.proofs.Reaching.{unmarked}
-use Rattle.ideal_tri.proofs.Turning.{rank-label_of_rank, label_of_rank-rank, rank-injective, rank_below, label_below}
+use Rattle.ideal_tri.proofs.Order.{rank-label_of_rank, label_of_rank-rank, rank-injective, rank_below, label_below}
 use Rattle.ideal_tri.proofs.Turning.{least_corner_there, least_corner_least, least_corner_label, least_corner_same}
 use Rattle.ideal_tri.proofs.Turning.{same_vertex_of_least, least_corner_own}
 use Rattle.ideal_tri.proofs.Merging.{merged, merged_keeps, merged_joins, IsNamed, names_of_parts}

@@ -1,8 +1,8 @@
 -- What holds of words and their inverses, of their reduction, and of closed words.
-use Rattle.std.specs.Prelude.{◌≡◌, ◌↔◌, ℤ, List, ◌++◌, length, map, true, All}
+use Rattle.std.specs.Prelude.{◌≡◌, ◌↔◌, ℤ, List, ◌∷◌, ◌++◌, length, map, true, All, slice_index_or}
 use Rattle.ideal_tri.specs.Triangulations.{IsLabel}
 use Rattle.ideal_tri.specs.Words.{inverse_word, IsReduced, reduce, Deletes, DeletesAll, IsRotation}
-use Rattle.ideal_tri.specs.Words.{IsCyclicallyReduced, cyclic_reduce}
+use Rattle.ideal_tri.specs.Words.{IsCyclicallyReduced, cyclic_reduce, last_of}
 use Rattle.ideal_tri.specs.Curves.{IsSameCurve, is_rotation, is_same_curve}
 
 -- the way back along a word
@@ -26,6 +26,7 @@ pub record RotationLaws : Type 0 where
 pub record ReductionLaws : Type 0 where
   pub is_reduced : (w : List ℤ) → IsReduced (reduce w)
   pub fixed : (w : List ℤ) → IsReduced w → reduce w ≡ w
+  pub front : (u v : List ℤ) → IsReduced (u ++ v) → IsReduced u
   pub twice : (w : List ℤ) → reduce (reduce w) ≡ reduce w
   pub append : (u v : List ℤ) → reduce (u ++ v) ≡ reduce (reduce u ++ reduce v)
   pub left : (u v b : List ℤ) → reduce u ≡ reduce v → reduce (u ++ b) ≡ reduce (v ++ b)
@@ -58,9 +59,11 @@ pub record CurveLaws : Type 0 where
   pub along : (u v w : List ℤ) → IsSameCurve u v → IsSameCurve v w → IsSameCurve u w
   pub reduced : (u v : List ℤ) → IsSameCurve u v → IsSameCurve (cyclic_reduce u) (cyclic_reduce v)
 
+-- all of them, and where the last letter stands
 pub record WordLaws : Type 0 where
   pub inverses : InverseLaws
   pub rotations : RotationLaws
   pub reduction : ReductionLaws
   pub cyclic : CyclicLaws
   pub curves : CurveLaws
+  pub last : (x : ℤ) (w : List ℤ) (d : ℤ) → last_of x w ≡ slice_index_or (x ∷ w) (length w) d

@@ -19,9 +19,9 @@ use Rattle.ideal_tri.specs.Vectors.{IsMulticurve}
 use Rattle.ideal_tri.specs.Strands.{State, IsStrand, state_at, uses, word_of, words_of}
 use Rattle.ideal_tri.specs.StrandLaws.{StrandLaws}
 use Rattle.ideal_tri.specs.Drawings.{strands_from, strands, curve_from, is_least_of, curves_among}
-use Rattle.free_groupoid.specs.Walks.{DualWalk}
+use Rattle.free_groupoid.specs.Walks.{DualWalk, walk_of_letters}
 use Rattle.strand_draw.specs.inside.Marks.{HasStrand, AreMarked}
-use Rattle.strand_draw.specs.inside.InOrder.{strands_before, walk_along, AreDrawn}
+use Rattle.strand_draw.specs.inside.InOrder.{strands_before, AreDrawn}
 use Rattle.strand_draw.specs.declared.marks.Marks.{Marks}
 
 -- ---- the strands before one
@@ -155,7 +155,7 @@ module _ (triples : List (List ℤ)) (w : List ℕ) where
   pub walk-along : (tri : List (List ℤ)) (x : ℤ) (q : State) (start : ℕ) (letters : List ℤ)
       → start ≡ triangle_of tri x → tri ≡ triples → x ≡ q.label → letters ≡ word_of (curve_from triples w q)
       → ◌≡◌ {A = DualWalk} (record { start = start; letters = letters })
-      (walk_along triples (word_of (curve_from triples w q)))
+      (walk_of_letters triples (word_of (curve_from triples w q)))
   walk-along tri x q start letters at e f word =
       let there : start ≡ triangle_of triples q.label =
       at ∙ ap (λ (z : List (List ℤ)). triangle_of z x) e ∙ ap (triangle_of triples) f in
@@ -163,11 +163,11 @@ module _ (triples : List (List ℤ)) (w : List ℕ) where
       ap (λ (s : ℕ). W s letters) there ∙ ap (W (triangle_of triples q.label)) word
 
   listed-push : (curves : List (List State)) (c : List State)
-      → map (walk_along triples) (words_of (curves ++ (c ∷ [])))
-      ≡ map (walk_along triples) (words_of curves) ++ (walk_along triples (word_of c) ∷ [])
+      → map (walk_of_letters triples) (words_of (curves ++ (c ∷ [])))
+      ≡ map (walk_of_letters triples) (words_of curves) ++ (walk_of_letters triples (word_of c) ∷ [])
   listed-push curves c =
-      ap (map (walk_along triples)) (map-append word_of curves (c ∷ []))
-      ∙ map-append (walk_along triples) (words_of curves) (word_of c ∷ [])
+      ap (map (walk_of_letters triples)) (map-append word_of curves (c ∷ []))
+      ∙ map-append (walk_of_letters triples) (words_of curves) (word_of c ∷ [])
 
   joined-push : (curves : List (List State)) (c : List State)
       → flat_map (λ run. run) curves ++ c ≡ flat_map (λ run. run) (curves ++ (c ∷ []))
@@ -199,7 +199,7 @@ module _ (triples : List (List ℤ)) (w : List ℕ) where
     -- a strand that no curve uses yet begins the next one
     pub drawn-free : (m marked : Marks) (walks now : List DualWalk) (walk : DualWalk)
         → AreDrawn triples w before m walks
-        → uses w q (flat_map (λ run. run) curves) ≡ 0 → walk ≡ walk_along triples (word_of c)
+        → uses w q (flat_map (λ run. run) curves) ≡ 0 → walk ≡ walk_of_letters triples (word_of c)
         → now ≡ walks ++ (walk ∷ [])
         → ((run : List State) → AreMarked w m run → AreMarked w marked (run ++ c)) → AreDrawn triples w next marked now
     drawn-free m marked walks now walk d free word push more =
@@ -212,9 +212,9 @@ module _ (triples : List (List ℤ)) (w : List ℕ) where
           listed =
               push
               ∙ ap (λ (z : List DualWalk). z ++ (walk ∷ [])) d.listed
-              ∙ ap (λ (z : DualWalk). map (walk_along triples) (words_of curves) ++ (z ∷ [])) word
+              ∙ ap (λ (z : DualWalk). map (walk_of_letters triples) (words_of curves) ++ (z ∷ [])) word
               ∙ sym (listed-push curves c)
-              ∙ ap (λ (z : List (List State)). map (walk_along triples) (words_of z)) all;
+              ∙ ap (λ (z : List (List State)). map (walk_of_letters triples) (words_of z)) all;
         }
 
     -- a strand that a curve uses already begins none
@@ -227,5 +227,5 @@ module _ (triples : List (List ℤ)) (w : List ℕ) where
         sym (curves-other before q other) ∙ ap (curves_among triples w) (before-with w q positive) in
         record {
           marked = subst (λ (z : List (List State)). AreMarked w m (flat_map (λ run. run) z)) none d.marked;
-          listed = d.listed ∙ ap (λ (z : List (List State)). map (walk_along triples) (words_of z)) none;
+          listed = d.listed ∙ ap (λ (z : List (List State)). map (walk_of_letters triples) (words_of z)) none;
         }

@@ -8,10 +8,10 @@ ghost use Rattle.ideal_tri.specs.Strands.{State, IsStrand, state_at, word_of, wo
 ghost use Rattle.ideal_tri.specs.Drawings.{curve_from, draw};
 ghost use Rattle.tri_atlas.specs.Arena.{triangulation};
 ghost use Rattle.edge_coords.specs.Coordinates.{AreCoordinatesIn, total_of};
-ghost use Rattle.free_groupoid.specs.Walks.{IsClosedOn};
+ghost use Rattle.free_groupoid.specs.Walks.{IsClosedOn, walk_of_letters};
 ghost use Rattle.strand_draw.specs.Refusals.{IsRefusedFor};
 ghost use Rattle.strand_draw.specs.inside.Marks.{AreNumbered, AreMarked};
-ghost use Rattle.strand_draw.specs.inside.InOrder.{strands_before, walk_along, AreDrawn};
+ghost use Rattle.strand_draw.specs.inside.InOrder.{strands_before, AreDrawn};
 
 use crate::marks::Marks;
 use crate::strand::{Strand, step, step_laws, weight};
@@ -113,7 +113,7 @@ fn draw(alloc: Global, atlas: &Atlas, w: &Coords, total: usize) -> Result<Vec<Wa
 fn are_closed(atlas: &Atlas, w: &Coords)
     requires { AreCoordinatesIn atlas.now w.now }
     ensures { All (IsClosedOn (triangulation atlas.now w.now.tri))
-        (map (walk_along (triangulation atlas.now w.now.tri))
+        (map (walk_of_letters (triangulation atlas.now w.now.tri))
         (words_of (draw (triangulation atlas.now w.now.tri) w.now.numbers))) }
 {
     let _ = atlas.tri(w.tri());

@@ -1,7 +1,8 @@
-// Curves on the once-punctured torus, and on the three-punctured sphere with two folded edges.
+// Curves on the once-punctured torus, and on the three-punctured sphere with two folded edges; and
+// the test walks of the torus.
 use super::*;
 use edge_coords::Coords;
-use free_groupoid::Walk;
+use free_groupoid::{Walk, test_walks};
 use ideal_tri::Tri;
 use std::test::Fail;
 use tri_atlas::Atlas;
@@ -48,5 +49,17 @@ fn through_folded_edges(rt: HostRuntime) -> Result<(), Fail> {
     assert_eq!(rt; walks.len(), 2);
     assert!(rt; is_walk(&walks[0], 0, &[0, 1, 2, -2]));
     assert!(rt; is_walk(&walks[1], 0, &[0]));
+    Ok(())
+}
+
+/// The loops of the edges 1 and 2, which the forest doesn't cross, and their product.
+#[test]
+fn test_walks_of_the_torus(rt: HostRuntime) -> Result<(), Fail> {
+    let tri = Tri::from_triples(&[[0, 1, 2], [-1, -2, -3]])?;
+    let walks = test_walks(rt.alloc(), &tri)?;
+    assert_eq!(rt; walks.len(), 3);
+    assert!(rt; is_walk(&walks[0], 0, &[1, -1]));
+    assert!(rt; is_walk(&walks[1], 0, &[2, -1]));
+    assert!(rt; is_walk(&walks[2], 0, &[1, -1, 2, -1]));
     Ok(())
 }

@@ -3,10 +3,10 @@
 -- After a switch comes a switch, which ends a branch of two letters, or a letter that is none; then, of the next two
 -- neighbours, the last one is a switch, and it ends a branch of three letters. The branch or its inverse is listed, and
 -- the first two letters of a pass settle it.
-use Rattle.std.proofs.Common.{ℕ, zero, suc, ℤ, pos, Bool, true, false, List, [], ◌∷◌, ◌++◌, ◌≡◌, ◌<◌, ◌≤◌, ◌⊎◌, inl}
+use Rattle.std.proofs.Common.{ℕ, zero, suc, ℤ, Bool, true, false, List, [], ◌∷◌, ◌≡◌, ◌<◌, ◌≤◌, inl}
 use Rattle.std.proofs.Common.{inr, refl, sym, ◌∙◌, ap, subst, arith, length, get_or, if◌then◌else◌}
-use Rattle.std.specs.List.{All, Contains}
-use Rattle.std.proofs.lemmas.Bool.{true≢false, cases_Bool}
+use Rattle.std.specs.List.{All}
+use Rattle.std.proofs.lemmas.Bool.{cases_Bool}
 use Rattle.std.proofs.lemmas.List.{get_or_default}
 use Rattle.std.proofs.lemmas.List.Elements.{All-head, All-tail}
 use Rattle.ideal_tri.specs.Words.{inverse_word, last_of}
@@ -15,9 +15,9 @@ use Rattle.ideal_tri.specs.SurfaceLaws.{TriangleLaws}
 use Rattle.ideal_tri.specs.Triangulations.{IsLabel}
 use Rattle.free_groupoid.specs.Walks.{DualWalk}
 use Rattle.train_track.specs.Tracks.{IsLegal, is_switch, IsSingleInTriangles}
-use Rattle.train_track.specs.Branches.{IsBranch, IsBranchList, TrainTrack, letter_at, words_of}
-use Rattle.train_track.specs.Passes.{Pass, letters_of, AreGlued, ArePassesOf, CanBeCut}
-use Rattle.train_track.specs.inside.Passing.{BeginsWith, CanBeCutInto}
+use Rattle.train_track.specs.Branches.{IsBranch, IsBranchList, TrainTrack, words_of}
+use Rattle.train_track.specs.Passes.{Pass, letters_of, AreGlued, CanBeCut}
+use Rattle.train_track.specs.inside.Passing.{CanBeCutInto}
 use Rattle.train_track.proofs.Turns.{IsTurn, turn, one_is_switch}
 use Rattle.train_track.proofs.Grown.{two_letters, three_letters, begun, grown_cases, Begun, settled, inverse_branch}
 use Rattle.train_track.proofs.Grown.{inverse_twice}

@@ -2,7 +2,7 @@
 --
 -- Some cut is there. Each branch that is read off has the first two letters of the next pass of that cut, so it has all
 -- its letters, and may take its place.
-use Rattle.std.proofs.Common.{ℕ, zero, suc, ℤ, pos, Bool, true, false, List, [], ◌∷◌, ◌++◌, ◌≡◌, ◌<◌, ◌≤◌, ◌+◌, ◌-◌}
+use Rattle.std.proofs.Common.{ℕ, suc, ℤ, pos, Bool, true, false, List, [], ◌∷◌, ◌++◌, ◌≡◌, ◌<◌, ◌≤◌, ◌+◌, ◌-◌}
 use Rattle.std.proofs.Common.{◌⊎◌, inl, inr, refl, sym, ◌∙◌, ap, subst, arith, length, map, drop, get_or, append_assoc}
 use Rattle.std.proofs.Common.{length-append, length-drop, drop-cons, if◌then◌else◌}
 use Rattle.std.proofs.Math.Seq.{drop-append_seam}
@@ -11,6 +11,7 @@ use Rattle.std.proofs.lemmas.List.{get_or-map, get_or-drop, get_or_append_left, 
 use Rattle.std.specs.List.{All}
 use Rattle.ideal_tri.specs.Labels.{inverse}
 use Rattle.ideal_tri.specs.Words.{inverse_word, last_of}
+use Rattle.ideal_tri.specs.WordLaws.{WordLaws}
 use Rattle.free_groupoid.specs.Walks.{DualWalk}
 use Rattle.train_track.specs.Branches.{letter_at, words_of}
 use Rattle.train_track.specs.Passes.{Pass, letters_of, AreGlued, ArePassesOf}
@@ -39,21 +40,17 @@ cut_none branches (x ∷ w) h = record {
 
 -- ---- one more pass
 
-last_of-read : (x : ℤ) (w : List ℤ) (d : ℤ) → last_of x w ≡ get_or (x ∷ w) (length w) d
-last_of-read x [] d = refl
-last_of-read x (y ∷ w) d = last_of-read y w d
-
 -- where the letters u after x end, in a word that goes on with them
-end_letter : (w u v : List ℤ) (i : ℕ) → i < length w → drop (i + 1) w ≡ u ++ v
+end_letter : WordLaws → (w u v : List ℤ) (i : ℕ) → i < length w → drop (i + 1) w ≡ u ++ v
     → letter_at w (i + length u) ≡ last_of (letter_at w i) u
-end_letter w u v i within split =
+end_letter words w u v i within split =
     let x : ℤ = letter_at w i in
     sym (get_or-drop i w (length u) (pos 0))
     ∙ ap (λ (z : List ℤ). get_or z (length u) (pos 0))
     (drop-cons w i (pos 0) within ∙ ap (λ (n : ℕ). x ∷ drop n w) (let e : suc i ≡ i + 1 = omega arith in e) ∙ ap
     (λ (z : List ℤ). x ∷ z) split)
     ∙ get_or_append_left (x ∷ u) v (pos 0) (length u) (omega arith)
-    ∙ sym (last_of-read x u (pos 0))
+    ∙ sym (words.last x u (pos 0))
 
 drop_twice : (i n : ℕ) (w : List ℤ) → drop n (drop i w) ≡ drop (i + n) w
 drop_twice i n w = drop-drop n i w
@@ -65,34 +62,30 @@ end_rest w u v i split =
     ∙ ap (drop (length u)) split
     ∙ drop-append_seam u v
 
-length-inverse_word : (w : List ℤ) → length (inverse_word w) ≡ length w
-length-inverse_word [] = refl
-length-inverse_word (x ∷ w) = omega (arith, length-append (inverse_word w) (inverse x ∷ []), length-inverse_word w)
-
-length-letters_of : (bs : List (List ℤ)) (p : Pass) → length (letters_of bs p) ≡ length (get_or bs p.branch [])
-length-letters_of bs p = go p.forwards
+length-letters_of : WordLaws → (bs : List (List ℤ)) (p : Pass) → length (letters_of bs p) ≡ length (get_or bs p.branch [])
+length-letters_of words bs p = go p.forwards
   where
     go : (b : Bool)
         → length (if b then get_or bs p.branch [] else inverse_word (get_or bs p.branch []))
         ≡ length (get_or bs p.branch [])
     go true = refl
-    go false = length-inverse_word (get_or bs p.branch [])
+    go false = words.inverses.as_long (get_or bs p.branch [])
 
-long_letters : (bs : List (List ℤ)) (p : Pass) → All (λ b. 2 ≤ length b) bs → p.branch < length bs
+long_letters : WordLaws → (bs : List (List ℤ)) (p : Pass) → All (λ b. 2 ≤ length b) bs → p.branch < length bs
     → 2 ≤ length (letters_of bs p)
-long_letters bs p long within =
+long_letters words bs p long within =
     let here : 2 ≤ length (get_or bs p.branch []) = long p.branch [] within in
-    omega (arith, length-letters_of bs p)
+    omega (arith, length-letters_of words bs p)
 
 -- the pass begins with the next two letters
-begins_next : (bs : List (List ℤ)) (w : List ℤ) (i : ℕ) (p : Pass) (u v : List ℤ) → All (λ b. 2 ≤ length b) bs
+begins_next : WordLaws → (bs : List (List ℤ)) (w : List ℤ) (i : ℕ) (p : Pass) (u v : List ℤ) → All (λ b. 2 ≤ length b) bs
     → p.branch < length bs
     → letters_of bs p ≡ letter_at w i ∷ u → drop (i + 1) w ≡ u ++ v
     → BeginsWith (letter_at w i) (letter_at w (i + 1)) (letters_of bs p)
-begins_next bs w i p [] v long within is split =
-    absurd (let two : 2 ≤ length (letters_of bs p) = long_letters bs p long within in omega (arith, ap length is))
-begins_next bs w i p (y ∷ u) v long within is split = record {
-  long = long_letters bs p long within;
+begins_next words bs w i p [] v long within is split =
+    absurd (let two : 2 ≤ length (letters_of bs p) = long_letters words bs p long within in omega (arith, ap length is))
+begins_next words bs w i p (y ∷ u) v long within is split = record {
+  long = long_letters words bs p long within;
   first = ap (λ (z : List ℤ). letter_at z 0) is;
   second =
       ap (λ (z : List ℤ). letter_at z 1) is
@@ -101,7 +94,7 @@ begins_next bs w i p (y ∷ u) v long within is split = record {
       ∙ ap (letter_at w) (let e : i + 1 + 0 ≡ i + 1 = omega arith in e);
 }
 
-module _ (bs : List (List ℤ)) (w : List ℤ) (can : CanBeCutInto bs w) where
+module _ (words : WordLaws) (bs : List (List ℤ)) (w : List ℤ) (can : CanBeCutInto bs w) where
   -- some branch begins with the next two letters
   pub some_begins : (numbers : List ℕ) (i : ℕ) → IsCutUpTo bs w numbers i → i + 1 < length w
       → (k : ℕ) × IsBeginning bs (letter_at w i) (letter_at w (i + 1)) k
@@ -111,7 +104,7 @@ module _ (bs : List (List ℤ)) (w : List ℤ) (can : CanBeCutInto bs w) where
           → (k : ℕ) × IsBeginning bs (letter_at w i) (letter_at w (i + 1)) k
       go [] none = absurd (omega (arith, ap length none, length-drop (i + 1) w))
       go (q ∷ left) (u, v, within, is, split, rest) =
-          (q.branch, (within, (q.forwards, begins_next bs w i q u v can.long within is split)))
+          (q.branch, (within, (q.forwards, begins_next words bs w i q u v can.long within is split)))
 
   cut_pass : (numbers : List ℕ) (i n : ℕ) (p : Pass) → IsCutUpTo bs w numbers i → i + 1 < length w
       → p.branch < length bs
@@ -125,9 +118,9 @@ module _ (bs : List (List ℤ)) (w : List ℤ) (can : CanBeCutInto bs w) where
       go (q ∷ left) (u, v, inside, is, split, rest) =
           let same : letters_of bs p ≡ letter_at w i ∷ u =
           can.settled p q (letter_at w i) (letter_at w (i + 1)) within inside begins
-          (begins_next bs w i q u v can.long inside is split) ∙ is in
+          (begins_next words bs w i q u v can.long inside is split) ∙ is in
           let step : i + (n - 1) ≡ i + length u =
-          omega (arith, length-letters_of bs p, ap length same, is_n) in
+          omega (arith, length-letters_of words bs p, ap length same, is_n) in
           let here = h.within in
           subst (IsCutUpTo bs w (numbers ++ (p.branch ∷ []))) (sym step) (record {
             within = omega (arith, ap length split, length-drop (i + 1) w, length-append u v);
@@ -138,7 +131,7 @@ module _ (bs : List (List ℤ)) (w : List ℤ) (can : CanBeCutInto bs w) where
                 ∙ sym (map_push (λ (r : Pass). r.branch) h.made p);
             left_glued =
                 subst (λ (x : ℤ). AreGlued bs x left (drop (i + length u + 1) w))
-                (sym (end_letter w u v i h.within split))
+                (sym (end_letter words w u v i h.within split))
                 (subst (AreGlued bs (last_of (letter_at w i) u) left) (sym (end_rest w u v i split)) rest);
             joined = λ more_passes glued.
                 subst (λ (ps : List Pass). ArePassesOf bs ps w) (sym (append_assoc h.made (p ∷ []) more_passes))
@@ -148,7 +141,7 @@ module _ (bs : List (List ℤ)) (w : List ℤ) (can : CanBeCutInto bs w) where
                   within,
                   same,
                   split,
-                  subst (λ (x : ℤ). AreGlued bs x more_passes v) (end_letter w u v i h.within split)
+                  subst (λ (x : ℤ). AreGlued bs x more_passes v) (end_letter words w u v i h.within split)
                       (subst (AreGlued bs (letter_at w (i + length u)) more_passes) (end_rest w u v i split) glued),
                 ));
           })
@@ -170,17 +163,17 @@ module _ (bs : List (List ℤ)) (w : List ℤ) (can : CanBeCutInto bs w) where
 -- ---- the two ends of a word
 
 -- the inverse of a word begins with the inverses of its last two letters
-pub inverse_begins : (w : List ℤ) → 2 ≤ length w
+pub inverse_begins : WordLaws → (w : List ℤ) → 2 ≤ length w
     → (letter_at (inverse_word w) 0 ≡ inverse (letter_at w (length w - 1)))
     × (letter_at (inverse_word w) 1 ≡ inverse (letter_at w (length w - 2)))
-inverse_begins [] h = absurd (omega arith)
-inverse_begins (x ∷ []) h = absurd (omega arith)
-inverse_begins (x ∷ (y ∷ [])) h = (refl, refl)
-inverse_begins (x ∷ (y ∷ (z ∷ w))) h =
+inverse_begins words [] h = absurd (omega arith)
+inverse_begins words (x ∷ []) h = absurd (omega arith)
+inverse_begins words (x ∷ (y ∷ [])) h = (refl, refl)
+inverse_begins words (x ∷ (y ∷ (z ∷ w))) h =
     let v : List ℤ = y ∷ (z ∷ w) in
     let long : 2 ≤ length v = omega arith in
-    let (a, b) = inverse_begins (y ∷ (z ∷ w)) long in
-    let room : 2 ≤ length (inverse_word v) = omega (arith, length-inverse_word v) in (
+    let (a, b) = inverse_begins words (y ∷ (z ∷ w)) long in
+    let room : 2 ≤ length (inverse_word v) = omega (arith, words.inverses.as_long v) in (
       get_or_append_left (inverse_word v) (inverse x ∷ []) (pos 0) 0 (omega arith) ∙ a
           ∙ ap (λ (k : ℕ). inverse (letter_at (x ∷ v) k))
           (let e : suc (length v - 1) ≡ length (x ∷ v) - 1 = omega arith in e),
@@ -190,7 +183,7 @@ inverse_begins (x ∷ (y ∷ (z ∷ w))) h =
     )
 
 -- what the two tests of letters say of a word
-module _ (w : List ℤ) (x y : ℤ) (long : 2 ≤ length w) where
+module _ (words : WordLaws) (w : List ℤ) (x y : ℤ) (long : 2 ≤ length w) where
   pub begins_forwards : letter_at w 0 ≡ x → letter_at w 1 ≡ y → BeginsSomeWay x y w
   begins_forwards a b = (true, record { long = long; first = a; second = b })
 
@@ -199,16 +192,16 @@ module _ (w : List ℤ) (x y : ℤ) (long : 2 ≤ length w) where
   begins_back a b = (
     false,
     record {
-      long = omega (arith, length-inverse_word w);
-      first = (inverse_begins w long).0 ∙ a;
-      second = (inverse_begins w long).1 ∙ b;
+      long = omega (arith, words.inverses.as_long w);
+      first = (inverse_begins words w long).0 ∙ a;
+      second = (inverse_begins words w long).1 ∙ b;
     },
   )
 
   pub begins_cases : BeginsSomeWay x y w → ((letter_at w 0 ≡ x) × (letter_at w 1 ≡ y))
       ⊎ ((inverse (letter_at w (length w - 1)) ≡ x) × (inverse (letter_at w (length w - 2)) ≡ y))
   begins_cases (true, h) = inl (h.first, h.second)
-  begins_cases (false, h) = inr (sym (inverse_begins w long).0 ∙ h.first, sym (inverse_begins w long).1 ∙ h.second)
+  begins_cases (false, h) = inr (sym (inverse_begins words w long).0 ∙ h.first, sym (inverse_begins words w long).1 ∙ h.second)
 
 -- the letters of a branch that is read from the list
 pub word_at : (branches : List DualWalk) (k : ℕ) (b : DualWalk) → k < length branches → b ≡ get_or branches k b

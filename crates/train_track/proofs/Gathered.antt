@@ -1,5 +1,5 @@
 -- Lists that a loop gathers, label by label.
-use Rattle.std.proofs.Common.{ℕ, ℤ, List, [], ◌∷◌, ◌++◌, ◌≡◌, ◌+◌, refl, sym, ◌∙◌, ap, map, arith, Bool, true, false}
+use Rattle.std.proofs.Common.{ℕ, ℤ, List, [], ◌∷◌, ◌++◌, ◌≡◌, ◌+◌, sym, ◌∙◌, ap, map, arith, Bool, true, false}
 use Rattle.std.proofs.Common.{cond}
 use Rattle.std.specs.List.{filter, flat_map, range_with_len}
 use Rattle.std.proofs.lemmas.List.{map-append, append-nil}

@@ -4,7 +4,7 @@
 -- most one letter lies between them, and that letter has one continuation. So the branch is grown from its first two
 -- letters; and what is grown from a switch and a legal continuation is a branch. Its inverse is one too, with other
 -- first two letters.
-use Rattle.std.proofs.Common.{ℕ, zero, suc, ℤ, pos, Bool, true, false, List, [], ◌∷◌, ◌++◌, ◌≡◌, ◌≢◌, ◌<◌, ◌⊎◌, inl}
+use Rattle.std.proofs.Common.{ℕ, ℤ, Bool, true, false, List, [], ◌∷◌, ◌++◌, ◌≡◌, ◌≢◌, inl}
 use Rattle.std.proofs.Common.{inr, refl, sym, ◌∙◌, ap, subst, if◌then◌else◌}
 use Rattle.std.specs.List.{All}
 use Rattle.std.proofs.lemmas.Bool.{true≢false, cases_Bool}
@@ -13,8 +13,8 @@ use Rattle.ideal_tri.specs.Labels.{inverse}
 use Rattle.ideal_tri.specs.Words.{inverse_word}
 use Rattle.ideal_tri.specs.LabelLaws.{LabelLaws}
 use Rattle.ideal_tri.specs.SurfaceLaws.{TriangleLaws}
-use Rattle.ideal_tri.specs.Triangulations.{IsLabel, IsWalk, triangle_of, next, previous}
-use Rattle.train_track.specs.Tracks.{is_left_out, is_switch, IsLegalPair, IsLegal, IsSingleInTriangles}
+use Rattle.ideal_tri.specs.Triangulations.{IsLabel, IsWalk, triangle_of}
+use Rattle.train_track.specs.Tracks.{is_switch, IsLegalPair, IsLegal, IsSingleInTriangles}
 use Rattle.train_track.specs.Branches.{IsBranch, letter_at}
 use Rattle.train_track.specs.inside.Growing.{continuation, grow}
 use Rattle.train_track.proofs.Turns.{IsTurn, legal_on, legal_back, legal_inverse, turn, turn_label, turn_triangle}

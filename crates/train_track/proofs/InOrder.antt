@@ -1,13 +1,11 @@
 -- The order of labels, and of words by their first two letters.
-use Rattle.std.proofs.Common.{ℕ, zero, suc, ℤ, pos, negsuc, Bool, true, false, ◌&&◌, ◌||◌, List, [], ◌∷◌, ◌++◌, ◌≡◌}
-use Rattle.std.proofs.Common.{◌≢◌, ◌<◌, ◌≤◌, ◌+◌, ◌*◌, ◌/◌, ◌%◌, ◌==◌, ◌⊎◌, inl, inr, refl, sym, ◌∙◌, ap, subst, arith}
-use Rattle.std.proofs.Common.{length, map, get_or, if◌then◌else◌, ltb}
-use Rattle.std.specs.List.{All, AllPairs, Contains, range_with_len}
+use Rattle.std.proofs.Common.{ℕ, ℤ, Bool, true, false, ◌&&◌, List, ◌≡◌}
+use Rattle.std.proofs.Common.{◌<◌, ◌*◌, inl, inr, refl, sym, ◌∙◌, ap, subst, arith}
+use Rattle.std.specs.List.{All, AllPairs, Contains}
 use Rattle.std.specs.Ordering.{int_eq}
-use Rattle.std.proofs.lemmas.Bool.{true≢false, cases_lt, cases_Bool, lt-ltb, le-ltb, ltb-true, or_left, or_right}
+use Rattle.std.proofs.lemmas.Bool.{true≢false, cases_lt, lt-ltb, le-ltb, ltb-true, or_left, or_right}
 use Rattle.std.proofs.lemmas.Bool.{or_from, and_from, and_left, or_cases, and_parts}
 use Rattle.std.proofs.lemmas.List.FromFn.{length-map-range_with_len, get_or-map-range_with_len}
-use Rattle.ideal_tri.specs.Labels.{inverse, edge_of}
 use Rattle.ideal_tri.specs.LabelLaws.{LabelLaws}
 use Rattle.ideal_tri.specs.Triangulations.{IsLabel, edge_count}
 use Rattle.ideal_tri.specs.Vertices.{rank, label_of_rank, ordered_labels}
@@ -15,63 +13,40 @@ use Rattle.train_track.specs.Branches.{are_before}
 
 -- ---- labels and their places
 
-pub rank-label_of_rank : (k : ℕ) → rank (label_of_rank k) ≡ k
-rank-label_of_rank k = go (k % 2 == 0) refl
-  where
-    go : (b : Bool) → (k % 2 == 0) ≡ b → rank (if b then pos (k / 2) else negsuc (k / 2)) ≡ k
-    go true e = (let f : k % 2 ≡ 0 = grind arith in omega arith)
-    go false e = (let f : k % 2 ≢ 0 = λ g. true≢false (sym (ap (λ (n : ℕ). n == 0) g) ∙ e) in omega arith)
+module _ (labels : LabelLaws) (ts : List (List ℤ)) where
+  label_at : (k : ℕ) → k < 2 * edge_count ts → IsLabel ts (label_of_rank k)
+  label_at k h =
+      labels.order.edge_below (label_of_rank k) (edge_count ts)
+      (subst (λ (n : ℕ). n < 2 * edge_count ts) (sym (labels.order.rank_of k)) h)
 
-pub rank-injective : (x y : ℤ) → rank x ≡ rank y → x ≡ y
-rank-injective (pos m) (pos n) e = ap pos (omega arith)
-rank-injective (pos m) (negsuc n) e = absurd (omega arith)
-rank-injective (negsuc m) (pos n) e = absurd (omega arith)
-rank-injective (negsuc m) (negsuc n) e = ap negsuc (omega arith)
+  -- each label is among those listed
+  pub label_listed : (x : ℤ) → IsLabel ts x → Contains (ordered_labels ts) x
+  label_listed x l =
+      let below : rank x < 2 * edge_count ts = labels.order.rank_below x (edge_count ts) l in (
+        rank x,
+        omega (arith, length-map-range_with_len label_of_rank 0 (2 * edge_count ts)),
+        get_or-map-range_with_len label_of_rank 0 (2 * edge_count ts) (rank x) (rank x) x below (omega arith)
+            ∙ labels.order.label_of x,
+      )
 
-pub label_of_rank-rank : (x : ℤ) → label_of_rank (rank x) ≡ x
-label_of_rank-rank x = rank-injective _ _ (rank-label_of_rank (rank x))
+  pub labels_in_order : AllPairs (λ x y. rank x < rank y) (ordered_labels ts)
+  labels_in_order i j d less within =
+      let n : ℕ = 2 * edge_count ts in
+      let below : j < n = omega (arith, length-map-range_with_len label_of_rank 0 n) in
+      omega (
+        arith,
+        ap rank (get_or-map-range_with_len label_of_rank 0 n i i d (omega arith) (omega arith)),
+        ap rank (get_or-map-range_with_len label_of_rank 0 n j j d below (omega arith)),
+        labels.order.rank_of i,
+        labels.order.rank_of j,
+      )
 
-pub rank_below : (x : ℤ) (n : ℕ) → edge_of x < n → rank x < 2 * n
-rank_below (pos m) n h = omega arith
-rank_below (negsuc m) n h = omega arith
-
-pub label_below : (x : ℤ) (n : ℕ) → rank x < 2 * n → edge_of x < n
-label_below (pos m) n h = omega arith
-label_below (negsuc m) n h = omega arith
-
-pub label_at : (ts : List (List ℤ)) (k : ℕ) → k < 2 * edge_count ts → IsLabel ts (label_of_rank k)
-label_at ts k h =
-    label_below (label_of_rank k) (edge_count ts)
-    (subst (λ (n : ℕ). n < 2 * edge_count ts) (sym (rank-label_of_rank k)) h)
-
--- each label is among those listed
-pub label_listed : (ts : List (List ℤ)) (x : ℤ) → IsLabel ts x → Contains (ordered_labels ts) x
-label_listed ts x l =
-    let below : rank x < 2 * edge_count ts = rank_below x (edge_count ts) l in (
-      rank x,
-      omega (arith, length-map-range_with_len label_of_rank 0 (2 * edge_count ts)),
-      get_or-map-range_with_len label_of_rank 0 (2 * edge_count ts) (rank x) (rank x) x below (omega arith)
-          ∙ label_of_rank-rank x,
-    )
-
-pub labels_in_order : (ts : List (List ℤ)) → AllPairs (λ x y. rank x < rank y) (ordered_labels ts)
-labels_in_order ts i j d less within =
-    let n : ℕ = 2 * edge_count ts in
-    let below : j < n = omega (arith, length-map-range_with_len label_of_rank 0 n) in
-    omega (
-      arith,
-      ap rank (get_or-map-range_with_len label_of_rank 0 n i i d (omega arith) (omega arith)),
-      ap rank (get_or-map-range_with_len label_of_rank 0 n j j d below (omega arith)),
-      rank-label_of_rank i,
-      rank-label_of_rank j,
-    )
-
-pub labels_listed : (ts : List (List ℤ)) → All (IsLabel ts) (ordered_labels ts)
-labels_listed ts k d within =
-    let n : ℕ = 2 * edge_count ts in
-    let below : k < n = omega (arith, length-map-range_with_len label_of_rank 0 n) in
-    subst (IsLabel ts) (sym (get_or-map-range_with_len label_of_rank 0 n k k d below (omega arith)))
-    (label_at ts k below)
+  pub labels_listed : All (IsLabel ts) (ordered_labels ts)
+  labels_listed k d within =
+      let n : ℕ = 2 * edge_count ts in
+      let below : k < n = omega (arith, length-map-range_with_len label_of_rank 0 n) in
+      subst (IsLabel ts) (sym (get_or-map-range_with_len label_of_rank 0 n k k d below (omega arith)))
+      (label_at k below)
 
 -- ---- pairs of letters
 
@@ -91,7 +66,7 @@ one_before labels x y u v apart e = elim (cases_lt (rank x) (rank u)) [
   | inr h ↦ elim (cases_lt (rank u) (rank x)) [
     | inl less ↦ absurd (true≢false (sym (before_first u v x y less) ∙ e))
     | inr more ↦
-        (let same : x ≡ u = rank-injective x u (omega arith) in
+        (let same : x ≡ u = labels.order.one x u (omega arith) in
         subst (λ (w : ℤ). are_before x y w v ≡ true) same (before_second labels x y v
         (elim (cases_lt (rank y) (rank v)) [
           | inl less ↦ less
@@ -99,7 +74,7 @@ one_before labels x y u v apart e = elim (cases_lt (rank x) (rank u)) [
             | inl less ↦
                 absurd (true≢false
                 (sym (subst (λ (w : ℤ). are_before w v x y ≡ true) same (before_second labels x v y less)) ∙ e))
-            | inr again ↦ absurd (apart (same, rank-injective y v (omega arith)))
+            | inr again ↦ absurd (apart (same, labels.order.one y v (omega arith)))
           ]
         ])))
   ]

@@ -1,10 +1,10 @@
 -- Left-out corners: in triangles, at vertices, and in the order of labels.
-use Rattle.std.proofs.Common.{ℕ, zero, suc, ℤ, pos, Bool, true, false, ◌||◌, List, [], ◌∷◌, ◌≡◌, ◌≢◌, ◌<◌, ◌≤◌, ◌+◌}
+use Rattle.std.proofs.Common.{ℕ, ℤ, pos, Bool, true, false, List, [], ◌∷◌, ◌≡◌, ◌≢◌, ◌<◌, ◌≤◌}
 use Rattle.std.proofs.Common.{◌⊎◌, inl, inr, refl, sym, ◌∙◌, ap, subst, arith, length, map, get_or}
 use Rattle.std.specs.Prelude.{nat_eq, slice_get, Some}
 use Rattle.std.specs.List.{All, AllPairs, Contains, list_any}
 use Rattle.std.specs.Ordering.{int_eq}
-use Rattle.std.proofs.lemmas.Bool.{true≢false, cases_Bool, or_cases, or_left, or_right, or_from, and_parts, and_from}
+use Rattle.std.proofs.lemmas.Bool.{true≢false, cases_Bool, or_cases, or_left, or_right, and_parts, and_from}
 use Rattle.std.proofs.lemmas.Bool.{eq-eqb, eqb-true}
 use Rattle.std.proofs.lemmas.List.{get_or-map, length-map, get_or_default}
 use Rattle.std.proofs.lemmas.Option.{get_or_from_slice_get}
@@ -13,7 +13,7 @@ use Rattle.std.proofs.lemmas.List.Folds.{list_any_at}
 use Rattle.ideal_tri.specs.LabelLaws.{LabelLaws}
 use Rattle.ideal_tri.specs.SurfaceLaws.{TriangleLaws}
 use Rattle.ideal_tri.specs.VertexLaws.{PunctureLaws}
-use Rattle.ideal_tri.specs.Triangulations.{IsLabel, triangle_of, next, previous}
+use Rattle.ideal_tri.specs.Triangulations.{IsLabel, triangle_of, next}
 use Rattle.ideal_tri.specs.Vertices.{rank, vertex_of, vertex_count}
 use Rattle.train_track.specs.Tracks.{is_left_out, IsSingleInTriangles, IsOpenAtVertices, ArePlaced}
 use Rattle.train_track.specs.Refusals.{HasTwo, IsVertexClosed, IsLeastClosed}

@@ -1,6 +1,6 @@
 -- The test of legal walks, neighbour by neighbour.
 use Rattle.std.proofs.Common.{ℕ, zero, suc, ℤ, pos, true, false, List, [], ◌∷◌, ◌≡◌, ◌<◌, ◌≤◌, ◌+◌, refl, sym, ◌∙◌, ap}
-use Rattle.std.proofs.Common.{subst, arith, length, get_or}
+use Rattle.std.proofs.Common.{arith, length, get_or}
 use Rattle.std.specs.List.{All}
 use Rattle.std.proofs.lemmas.Bool.{true≢false}
 use Rattle.std.proofs.lemmas.List.{get_or_default}

@@ -12,4 +12,4 @@ pub mod FreeCorners
 pub mod Made
 pub mod CutLegal
 pub mod TrackTheory
-mod WorkedTorus
+pub mod WorkedTorus

@@ -4,31 +4,30 @@
 -- turn to. So going through all labels in order, and through the two sides in order, finds each branch once, in the
 -- order of first and second letters. Of a branch and its inverse, whose first two letters differ, just one is found
 -- first.
-use Rattle.std.proofs.Common.{ℕ, zero, suc, ℤ, pos, Bool, true, false, not, ◌&&◌, List, [], ◌∷◌, ◌++◌, ◌≡◌, ◌≢◌, ◌<◌}
-use Rattle.std.proofs.Common.{◌≤◌, ◌+◌, ◌*◌, ◌⊎◌, inl, inr, refl, sym, ◌∙◌, ap, subst, if◌then◌else◌, arith, length}
-use Rattle.std.proofs.Common.{get_or, map, ltb}
-use Rattle.std.specs.List.{All, AllPairs, Contains, flat_map, range_with_len}
+use Rattle.std.proofs.Common.{ℕ, ℤ, Bool, true, false, not, ◌&&◌, List, [], ◌∷◌, ◌++◌, ◌≡◌, ◌<◌}
+use Rattle.std.proofs.Common.{◌≤◌, ◌⊎◌, inl, inr, refl, sym, ◌∙◌, ap, subst, if◌then◌else◌, arith}
+use Rattle.std.proofs.Common.{get_or, ltb}
+use Rattle.std.specs.List.{All, AllPairs, Contains}
 use Rattle.std.specs.Ordering.{int_eq}
 use Rattle.std.proofs.lemmas.Bool.{true≢false, cases_Bool, cases_lt, and_from, and_parts, not-true, not_from_false}
 use Rattle.std.proofs.lemmas.Bool.{ltb-true, ltb-false}
 use Rattle.std.proofs.lemmas.List.Elements.{All-nil, All-cons, All-append, All-contains, Contains-append_left}
 use Rattle.std.proofs.lemmas.List.Elements.{Contains-append_right}
-use Rattle.std.proofs.lemmas.List.FromFn.{length-map-range_with_len, get_or-map-range_with_len}
 use Rattle.ideal_tri.specs.Labels.{inverse}
 use Rattle.ideal_tri.specs.Words.{inverse_word}
 use Rattle.ideal_tri.specs.LabelLaws.{LabelLaws}
 use Rattle.ideal_tri.specs.SurfaceLaws.{TriangleLaws}
-use Rattle.ideal_tri.specs.Triangulations.{IsLabel, edge_count, next, previous}
-use Rattle.ideal_tri.specs.Vertices.{rank, label_of_rank, ordered_labels}
-use Rattle.train_track.specs.Tracks.{is_left_out, is_switch, IsLegalPair, IsSingleInTriangles}
+use Rattle.ideal_tri.specs.Triangulations.{IsLabel, next, previous}
+use Rattle.ideal_tri.specs.Vertices.{rank, ordered_labels}
+use Rattle.train_track.specs.Tracks.{is_left_out, is_switch, IsSingleInTriangles}
 use Rattle.train_track.specs.Branches.{IsBranch, IsBranchList, letter_at, are_before, is_before}
 use Rattle.train_track.specs.inside.Growing.{is_legal_pair, continuation, grow, is_found, is_listed, listed}
 use Rattle.train_track.specs.inside.Growing.{listed_from, lesser_side, greater_side, branch_words}
-use Rattle.train_track.proofs.Turns.{IsTurn, legal_on, legal_back, turn, turn_label}
+use Rattle.train_track.proofs.Turns.{IsTurn}
 use Rattle.train_track.proofs.Grown.{Begun, grown_cases, grow-first, grow-second, grown, begun, begins_otherwise}
-use Rattle.train_track.proofs.Grown.{inverse_branch, inverse_twice, grow-switch, grow-other}
+use Rattle.train_track.proofs.Grown.{inverse_branch, inverse_twice}
 use Rattle.train_track.proofs.InOrder.{labels_in_order, labels_listed, label_listed, before_first, before_second}
-use Rattle.train_track.proofs.InOrder.{one_before, not_both, rank-injective}
+use Rattle.train_track.proofs.InOrder.{one_before, not_both}
 use Rattle.train_track.proofs.Lists.{contains_here, pairs_none, pairs_one, pairs_append, all_joined, contains_joined}
 use Rattle.train_track.proofs.Lists.{pairs_joined}
 
@@ -140,7 +139,7 @@ module _ (ts : List (List ℤ)) (out : List ℤ) (labels : LabelLaws) (triangles
           elim (cases_lt (rank (next ts p)) (rank (previous ts p))) [
             | inl h ↦ h
             | inr h ↦ absurd ((triangles.moves (next ts p) (triangles.label p (labels.label ts x l))).0
-                (rank-injective (previous ts p) (next ts p) (omega arith)))
+                (labels.order.one (previous ts p) (next ts p) (omega arith)))
           ]
 
   -- a pair turns to one of them
@@ -243,7 +242,7 @@ module _ (ts : List (List ℤ)) (out : List ℤ) (labels : LabelLaws) (triangles
     each : All (λ b. IsBranch ts out b × IsFirst b) (branch_words ts out)
     each =
         all_joined (listed_from ts out) (λ b. IsBranch ts out b × IsFirst b) (ordered_labels ts)
-        (λ k d h. each_from (get_or (ordered_labels ts) k d) (labels_listed ts k d h))
+        (λ k d h. each_from (get_or (ordered_labels ts) k d) (labels_listed labels ts k d h))
 
     has : (b : List ℤ) → IsBranch ts out b → IsFirst b → Contains (branch_words ts out) b
     has b h first =
@@ -265,7 +264,7 @@ module _ (ts : List (List ℤ)) (out : List ℤ) (labels : LabelLaws) (triangles
               (subst (λ (z : ℤ). Contains (listed ts out x z) (grow ts out x y)) e here)
         ]) in
         subst (Contains (branch_words ts out)) (sym g.is)
-        (contains_joined (listed_from ts out) (ordered_labels ts) x (grow ts out x y) (label_listed ts x g.label) from)
+        (contains_joined (listed_from ts out) (ordered_labels ts) x (grow ts out x y) (label_listed labels ts x g.label) from)
 
     pub branch_list : IsBranchList ts out (branch_words ts out)
     branch_list = record {
@@ -274,7 +273,7 @@ module _ (ts : List (List ℤ)) (out : List ℤ) (labels : LabelLaws) (triangles
       all = has;
       order =
           pairs_joined (listed_from ts out) IsBefore (λ x y. rank x < rank y) (ordered_labels ts) across
-          (λ k d h. pairs_from (get_or (ordered_labels ts) k d) (labels_listed ts k d h)) (labels_in_order ts);
+          (λ k d h. pairs_from (get_or (ordered_labels ts) k d) (labels_listed labels ts k d h)) (labels_in_order labels ts);
     }
 
 -- ---- what follows from the four properties of the list

@@ -1,17 +1,17 @@
 -- The parts of a track, put together.
-use Rattle.std.proofs.Common.{ℕ, ℤ, List, ◌≡◌, sym, ◌∙◌, ap, subst, map}
+use Rattle.std.proofs.Common.{ℕ, ℤ, List, ◌≡◌, sym, subst, map}
 use Rattle.std.specs.List.{All}
 use Rattle.tri_atlas.specs.Arena.{Arena, triangulation, IsTriIn}
-use Rattle.free_groupoid.specs.Walks.{DualWalk, IsWalkOn}
+use Rattle.free_groupoid.specs.Walks.{DualWalk, IsWalkOn, walk_of_letters}
 use Rattle.train_track.specs.Tracks.{ArePlaced, IsSingleInTriangles, IsOpenAtVertices, switches_of}
 use Rattle.train_track.specs.Branches.{IsBranchList, IsTrackOn, IsTrackIn, words_of}
-use Rattle.train_track.specs.inside.Growing.{branch_words, walk_of}
+use Rattle.train_track.specs.inside.Growing.{branch_words}
 
 track_on : (t : ℕ) (ts : List (List ℤ)) (out switches : List ℤ) (branches : List DualWalk) → ArePlaced ts out
     → IsSingleInTriangles ts out
-    → IsOpenAtVertices ts out → switches ≡ switches_of ts out → branches ≡ map (walk_of ts) (branch_words ts out)
-    → All (IsWalkOn ts) (map (walk_of ts) (branch_words ts out))
-    → IsBranchList ts out (words_of (map (walk_of ts) (branch_words ts out)))
+    → IsOpenAtVertices ts out → switches ≡ switches_of ts out → branches ≡ map (walk_of_letters ts) (branch_words ts out)
+    → All (IsWalkOn ts) (map (walk_of_letters ts) (branch_words ts out))
+    → IsBranchList ts out (words_of (map (walk_of_letters ts) (branch_words ts out)))
     → IsTrackOn ts (record { tri = t; left_out = out; switches = switches; branches = branches })
 track_on t ts out switches branches placed single opened are_switches are_branches walks list = record {
   labels = placed;
@@ -24,9 +24,9 @@ track_on t ts out switches branches placed single opened are_switches are_branch
 pub track_in : (arena : Arena) (t : ℕ) (ts : List (List ℤ)) (out kept switches : List ℤ) (branches : List DualWalk)
     → IsTriIn arena t
     → ts ≡ triangulation arena t → out ≡ kept → ArePlaced (triangulation arena t) kept → IsSingleInTriangles ts out
-    → IsOpenAtVertices ts out → switches ≡ switches_of ts out → branches ≡ map (walk_of ts) (branch_words ts out)
-    → All (IsWalkOn ts) (map (walk_of ts) (branch_words ts out))
-    → IsBranchList ts out (words_of (map (walk_of ts) (branch_words ts out)))
+    → IsOpenAtVertices ts out → switches ≡ switches_of ts out → branches ≡ map (walk_of_letters ts) (branch_words ts out)
+    → All (IsWalkOn ts) (map (walk_of_letters ts) (branch_words ts out))
+    → IsBranchList ts out (words_of (map (walk_of_letters ts) (branch_words ts out)))
     → IsTrackIn arena (record { tri = t; left_out = kept; switches = switches; branches = branches })
 track_in arena t ts out kept switches branches inside is_ts is_out placed single opened are_switches are_branches walks
     list = record {

@@ -1,5 +1,5 @@
 -- The laws of tracks, from the lemmas on turns, branches and passes.
-use Rattle.std.proofs.Common.{ℕ, zero, suc, ℤ, pos, Bool, true, false, List, [], ◌∷◌, ◌++◌, ◌≡◌, ◌≢◌, ◌<◌, ◌≤◌, ◌⊎◌}
+use Rattle.std.proofs.Common.{ℕ, ℤ, pos, false, List, [], ◌∷◌, ◌++◌, ◌≡◌, ◌≢◌, ◌<◌, ◌⊎◌}
 use Rattle.std.proofs.Common.{inl, inr, refl, sym, ◌∙◌, ap, subst, arith, length, get_or, append_assoc}
 use Rattle.std.specs.List.{All}
 use Rattle.std.proofs.lemmas.Bool.{cases_Bool, false_from_ne_true}
@@ -8,10 +8,9 @@ use Rattle.ideal_tri.specs.Words.{last_of}
 use Rattle.ideal_tri.specs.LabelLaws.{LabelLaws}
 use Rattle.ideal_tri.specs.SurfaceLaws.{SurfaceLaws, TriangleLaws}
 use Rattle.ideal_tri.specs.Triangulations.{IsTriangulation, IsLabel, triangle_of}
-use Rattle.free_groupoid.specs.Walks.{DualWalk}
-use Rattle.train_track.specs.Tracks.{IsSingleInTriangles, IsLegal, IsLegalPair, is_fork, is_switch}
-use Rattle.train_track.specs.Branches.{IsBranch, IsBranchList, letter_at}
-use Rattle.train_track.specs.Passes.{Pass, AreGlued, ArePassesOf, IsFromSwitchToSwitch}
+use Rattle.train_track.specs.Tracks.{IsSingleInTriangles, IsLegal, IsLegalPair, is_switch}
+use Rattle.train_track.specs.Branches.{IsBranchList}
+use Rattle.train_track.specs.Passes.{Pass, AreGlued, ArePassesOf}
 use Rattle.train_track.specs.TrackLaws.{TurnLaws, BranchLaws, ListLaws, TrackLaws}
 use Rattle.train_track.specs.inside.Growing.{continuation, grow}
 use Rattle.train_track.proofs.Turns.{IsTurn, turn, turn_label, legal_inverse, continues, only_continuation}

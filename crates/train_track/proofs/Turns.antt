@@ -8,16 +8,15 @@
 -- Of two neighbours one is a switch: say v is the side after p, and z the third side. If the corner at z is kept, then
 -- both corners of the side p are; if it is left out, the corner v is kept, and both corners of the side v are. So a
 -- legal walk has no two letters in a row that are no switches.
-use Rattle.std.proofs.Common.{ℕ, ℤ, Bool, true, false, not, ◌&&◌, ◌||◌, List, [], ◌∷◌, ◌≡◌, ◌≢◌, ◌<◌, ◌⊎◌, inl, inr}
+use Rattle.std.proofs.Common.{ℤ, Bool, true, false, not, ◌||◌, List, ◌≡◌, ◌≢◌, ◌⊎◌, inl, inr}
 use Rattle.std.proofs.Common.{refl, sym, ◌∙◌, ap, subst, if◌then◌else◌}
-use Rattle.std.specs.Ordering.{int_eq}
-use Rattle.std.proofs.lemmas.Bool.{true≢false, cases_Bool, and_from, or_left, or_right, or_parts, and_cases, not-true}
+use Rattle.std.proofs.lemmas.Bool.{true≢false, cases_Bool, and_from, or_left, or_right, or_parts, and_cases}
 use Rattle.std.proofs.lemmas.Bool.{not_from_false}
 use Rattle.ideal_tri.specs.Labels.{inverse}
 use Rattle.ideal_tri.specs.LabelLaws.{LabelLaws}
 use Rattle.ideal_tri.specs.SurfaceLaws.{TriangleLaws}
 use Rattle.ideal_tri.specs.Triangulations.{IsLabel, triangle_of, next, previous}
-use Rattle.train_track.specs.Tracks.{is_left_out, is_fork, is_switch, IsLegalPair, UsesCorner, IsSingleInTriangles}
+use Rattle.train_track.specs.Tracks.{is_left_out, is_fork, is_switch, IsLegalPair, IsSingleInTriangles}
 use Rattle.train_track.specs.inside.Growing.{continuation}
 
 -- ---- tests

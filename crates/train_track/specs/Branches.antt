@@ -1,5 +1,5 @@
 -- The branches of a track, and the order in which they are listed.
-use Rattle.std.specs.Prelude.{◌≡◌, ◌<◌, ◌&&◌, ◌||◌, ℕ, ℤ, pos, Bool, true, false, List, [], ◌∷◌}
+use Rattle.std.specs.Prelude.{◌≡◌, ◌&&◌, ◌||◌, ℕ, ℤ, pos, Bool, true, false, List, [], ◌∷◌}
 use Rattle.std.specs.Prelude.{◌++◌, map}
 use Rattle.std.specs.Prelude.{nat_lt, slice_index_or, All, AllPairs, Contains}
 use Rattle.std.specs.Ordering.{int_eq}

@@ -1,5 +1,5 @@
 -- How a legal walk passes branches, one after another.
-use Rattle.std.specs.Prelude.{◌≡◌, ◌<◌, ◌≤◌, ℕ, ℤ, Bool, true, List, [], ◌∷◌, ◌++◌, length, map}
+use Rattle.std.specs.Prelude.{◌≡◌, ◌<◌, ℕ, ℤ, Bool, true, List, [], ◌∷◌, ◌++◌, length}
 use Rattle.std.specs.Prelude.{slice_index_or}
 use Rattle.std.specs.Prelude.{if◌then◌else◌}
 use Rattle.ideal_tri.specs.Triangulations.{IsTriangulation}

@@ -1,12 +1,12 @@
 -- What holds of tracks, their branches and the passes of legal walks.
-use Rattle.std.specs.Prelude.{◌≡◌, ◌≢◌, ◌<◌, ◌≤◌, ◌↔◌, ◌⊎◌, ℕ, ℤ, true, List, ◌∷◌, ◌++◌, length}
+use Rattle.std.specs.Prelude.{◌≡◌, ◌≢◌, ◌<◌, ◌⊎◌, ℕ, ℤ, true, List, ◌++◌, length}
 use Rattle.std.specs.Prelude.{Contains}
 use Rattle.ideal_tri.specs.Labels.{inverse}
 use Rattle.ideal_tri.specs.Words.{inverse_word, last_of}
 use Rattle.ideal_tri.specs.Triangulations.{IsTriangulation, IsLabel, triangle_of}
-use Rattle.free_groupoid.specs.Walks.{DualWalk, IsWalkOn}
+use Rattle.free_groupoid.specs.Walks.{DualWalk}
 use Rattle.train_track.specs.Tracks.{IsSingleInTriangles, IsLegalPair, is_fork, is_switch}
-use Rattle.train_track.specs.Branches.{IsBranch, IsBranchList, letter_at, words_of}
+use Rattle.train_track.specs.Branches.{IsBranch, IsBranchList, letter_at}
 use Rattle.train_track.specs.Passes.{Pass, letters_of, AreGlued, ArePassesOf, IsFromSwitchToSwitch}
 
 -- left-out corners, of which no two lie in one triangle

@@ -2,12 +2,12 @@
 ghost use Rattle.std.specs.Prelude.{◌≡◌, ◌<◌, ◌≤◌, ◌+◌, ◌++◌, [], ◌∷◌, pos, length, map};
 ghost use Rattle.std.specs.Prelude.{slice_index_or, All, OnOk, IfOk};
 ghost use Rattle.ideal_tri.specs.Triangulations.{IsTriangulation, IsLabel};
-ghost use Rattle.free_groupoid.specs.Walks.{IsWalkOn};
+ghost use Rattle.free_groupoid.specs.Walks.{IsWalkOn, walk_of_letters};
 ghost use Rattle.train_track.specs.Tracks.{IsSingleInTriangles};
 ghost use Rattle.train_track.specs.Branches.{IsBranchList, words_of};
 ghost use Rattle.train_track.specs.inside.Growing.{is_found, is_listed, grow, listed, listed_from};
 ghost use Rattle.train_track.specs.inside.Growing.{lesser_side, greater_side};
-ghost use Rattle.train_track.specs.inside.Growing.{branch_words, walk_of};
+ghost use Rattle.train_track.specs.inside.Growing.{branch_words};
 ghost use Rattle.train_track.specs.declared.passes.TheConstants.{BRANCHES};
 
 use crate::legal::{continuation, is_legal_pair, is_switch};
@@ -19,7 +19,7 @@ use std::alloc::Global;
 /// The branches: of a branch and its inverse the one that is found first.
 pub(crate) fn branches(alloc: Global, tri: &Tri, left_out: &[Label]) -> Result<Vec<Walk>, Memory>
     ensures value { IfOk result (λ found. found.items
-        ≡ map (walk_of tri.now) (branch_words tri.now left_out.now)) }
+        ≡ map (walk_of_letters tri.now) (branch_words tri.now left_out.now)) }
     ensures few { IfOk result (λ found. length found.items ≤ BRANCHES) }
 {
     let mut found = Vec::new(alloc);
@@ -33,10 +33,10 @@ pub(crate) fn branches(alloc: Global, tri: &Tri, left_out: &[Label]) -> Result<V
 pub(crate) fn branch_law(tri: &Tri, left_out: &[Label])
     requires sound { IsTriangulation tri.now }
     requires single { IsSingleInTriangles tri.now left_out.now }
-    ensures walks { All (IsWalkOn tri.now) (map (walk_of tri.now) (branch_words tri.now
+    ensures walks { All (IsWalkOn tri.now) (map (walk_of_letters tri.now) (branch_words tri.now
         left_out.now)) }
     ensures list { IsBranchList tri.now left_out.now
-        (words_of (map (walk_of tri.now) (branch_words tri.now left_out.now))) }
+        (words_of (map (walk_of_letters tri.now) (branch_words tri.now left_out.now))) }
 {
     label_laws();
     surface_laws();
@@ -53,7 +53,7 @@ fn push_from(
 ) -> Result<(), Memory>
     requires { IsLabel tri.now x }
     ensures value { OnOk result (found.new.items
-        ≡ found.old.items ++ map (walk_of tri.now) (listed_from tri.now left_out.now x)) }
+        ≡ found.old.items ++ map (walk_of_letters tri.now) (listed_from tri.now left_out.now x)) }
     ensures few { OnOk result (length found.new.items ≤ length found.old.items + 2) }
 {
     if !is_switch(tri, left_out, x) {
@@ -94,7 +94,7 @@ fn push_pair(
     requires first { IsLabel tri.now x }
     requires second { IsLabel tri.now y }
     ensures value { OnOk result (found.new.items
-        ≡ found.old.items ++ map (walk_of tri.now) (listed tri.now left_out.now x y)) }
+        ≡ found.old.items ++ map (walk_of_letters tri.now) (listed tri.now left_out.now x y)) }
     ensures few { OnOk result (length found.new.items ≤ length found.old.items + 1) }
 {
     if is_listed(tri, left_out, x, y) {
@@ -141,7 +141,7 @@ fn push_grown(
     requires first { IsLabel tri.now x }
     requires second { IsLabel tri.now y }
     ensures { OnOk result (found.new.items
-        ≡ found.old.items ++ walk_of tri.now (grow tri.now left_out.now x y) ∷ []) }
+        ≡ found.old.items ++ walk_of_letters tri.now (grow tri.now left_out.now x y) ∷ []) }
 {
     if is_switch(tri, left_out, y) {
         push_walk(alloc, found, tri, &[x, y])
@@ -160,7 +160,7 @@ fn push_walk(
     requires some { 0 < length letters.now }
     requires label { IsLabel tri.now (slice_index_or letters.now 0 (pos 0)) }
     ensures { OnOk result (found.new.items
-        ≡ found.old.items ++ walk_of tri.now letters.now ∷ []) }
+        ≡ found.old.items ++ walk_of_letters tri.now letters.now ∷ []) }
 {
     let start = tri.place(letters[0]).0;
     let letters = Vec::from_slice(alloc, letters)?;

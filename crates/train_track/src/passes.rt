@@ -7,7 +7,7 @@ ghost use Rattle.train_track.specs.inside.Passing.{BeginsSomeWay, IsBeginning, C
 ghost use Rattle.train_track.specs.declared.passes.TheConstants.{BRANCHES};
 
 use free_groupoid::Walk;
-use ideal_tri::{EDGES, Label, Memory};
+use ideal_tri::{EDGES, Label, Memory, word_laws};
 use std::alloc::Global;
 
 /// No track has more branches: two for each label.
@@ -25,6 +25,7 @@ pub(crate) fn passes(
         × ArePassesOf (words_of branches.now) passes letters.now
         × (numbers.items ≡ map (λ p. p.branch) passes)) }
 {
+    word_laws();
     let mut numbers = Vec::new(alloc);
     let count = letters.len();
     let mut i = 0;
@@ -64,6 +65,7 @@ fn begins_some_way(letters: &[Label], x: Label, y: Label) -> bool
     requires { 2 ≤ length letters.now }
     ensures { IsTrue result ↔ BeginsSomeWay x y letters.now }
 {
+    word_laws();
     let last = letters.len() - 1;
     if are_letters(letters[0], letters[1], x, y) {
         return true;

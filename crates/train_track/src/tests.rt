@@ -35,6 +35,24 @@ fn torus_track(rt: HostRuntime) -> Result<(), Fail> {
 }
 
 #[test]
+fn passes_of_a_walk(rt: HostRuntime) -> Result<(), Fail> {
+    let alloc = rt.alloc();
+    let tri = Tri::from_triples(&[[0, 1, 2], [-1, -2, -3]])?;
+    let atlas = Atlas::new(alloc, tri)?;
+    let (zero, one, two) = (Label::new(0), Label::new(1), Label::new(2));
+    let track = Track::from_list(alloc, &atlas, atlas.base(), &[two, two.inverse()])?;
+    let letters = [one, two.inverse(), one, zero.inverse(), one];
+    let walk = Walk::new(alloc, &tri, 0, &letters)?;
+    if track.legal(&atlas, &walk) {
+        let passes = track.decompose(alloc, &walk)?;
+        assert!(rt; passes.as_slice() == [1, 0].as_slice());
+        return Ok(());
+    }
+    assert!(rt; false, "a legal walk");
+    Ok(())
+}
+
+#[test]
 fn refusals(rt: HostRuntime) -> Result<(), Fail> {
     let alloc = rt.alloc();
     let tri = Tri::from_triples(&[[0, 1, 2], [-1, -2, -3]])?;

@@ -115,6 +115,7 @@ impl Track {
         ensures refused { IfErr result (IsNotFilling (triangulation atlas.now w.now.tri)
             (free_corners (triangulation atlas.now w.now.tri) w.now.numbers)) }
     {
+        label_laws();
         let left_out = free_corners(alloc, atlas, w)?;
         Track::of_corners(alloc, atlas, w.tri(), left_out)
     }

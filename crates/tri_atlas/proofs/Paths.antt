@@ -8,10 +8,9 @@
 -- backwards. The rest and back is the identity on the labels of the triangulation after the first move, by induction,
 -- and the letters of the image of a label are such labels. What is left is the first move and its backward move,
 -- which undo each other.
-use Rattle.std.proofs.Common.{ℤ, List, [], ◌∷◌, ◌++◌, ◌≡◌, refl, sym, ◌∙◌, ap, append_assoc, map}
+use Rattle.std.proofs.Common.{get_or, ℤ, List, [], ◌∷◌, ◌++◌, ◌≡◌, refl, sym, ◌∙◌, ap, append_assoc, map}
 use Rattle.std.specs.List.{All, flat_map}
 use Rattle.std.proofs.lemmas.List.{append-nil, reverse-append}
-use Rattle.std.proofs.lemmas.List.Elements.{All-head, All-tail}
 use Rattle.ideal_tri.specs.Words.{reduce}
 use Rattle.ideal_tri.specs.Triangulations.{IsTriangulation, IsLabel}
 use Rattle.tri_atlas.specs.Moves.{Move, back_of, ArePath, back_along}
@@ -19,25 +18,8 @@ use Rattle.tri_atlas.specs.Maps.{IsOdd, identity, after, image_of_letter, map_be
 use Rattle.tri_atlas.specs.MapLaws.{PathLaws}
 use Rattle.tri_atlas.proofs.LowerLaws.{LowerLaws}
 use Rattle.tri_atlas.proofs.Substitutions.{reduce-flat_map_reduce, flat_map-respects, flat_map-after, IsOdd-after}
+use Rattle.tri_atlas.proofs.Substitutions.{flat_map-identity, flat_map-same, flat_map-same_at}
 use Rattle.tri_atlas.proofs.Moves.{image_of_letter-odd, image_of_letter-labels, move_undone}
-
--- ---- substitutions
-
-pub flat_map-identity : (w : List ℤ) → flat_map identity w ≡ w
-flat_map-identity [] = refl
-flat_map-identity (x ∷ w) = ap (λ (z : List ℤ). x ∷ z) (flat_map-identity w)
-
-pub flat_map-same : (f g : ℤ → List ℤ) (w : List ℤ) → ((x : ℤ) → f x ≡ g x) → flat_map f w ≡ flat_map g w
-flat_map-same f g [] e = refl
-flat_map-same f g (x ∷ w) e =
-    ap (λ (z : List ℤ). z ++ flat_map f w) (e x) ∙ ap (λ (z : List ℤ). g x ++ z) (flat_map-same f g w e)
-
-flat_map-same_at : (P : ℤ → Type 0) (f g : ℤ → List ℤ) (w : List ℤ) → All P w → ((x : ℤ) → P x → f x ≡ g x)
-    → flat_map f w ≡ flat_map g w
-flat_map-same_at P f g [] h e = refl
-flat_map-same_at P f g (x ∷ w) h e =
-    ap (λ (z : List ℤ). z ++ flat_map f w) (e x (All-head P x w h))
-    ∙ ap (λ (z : List ℤ). g x ++ z) (flat_map-same_at P f g w (All-tail P x w h) e)
 
 module _ (laws : LowerLaws) where
   -- ---- paths
@@ -126,9 +108,9 @@ module _ (laws : LowerLaws) where
   path_map-around P m moves n x letters h =
       path_map-cons m (moves ++ (n ∷ [])) x
       ∙ ap reduce
-      (flat_map-same_at P (path_map (moves ++ (n ∷ []))) (after (image_of_letter n) identity)
-      (image_of_letter m x) letters
-      (λ y p. path_map-then moves n y (h y p)))
+      (flat_map-same_at (path_map (moves ++ (n ∷ []))) (after (image_of_letter n) identity) (image_of_letter m x)
+      (λ k d inside. path_map-then moves n (get_or (image_of_letter m x) k d)
+      (h (get_or (image_of_letter m x) k d) (letters k d inside))))
       ∙ flat_map-after laws identity (image_of_letter n) (image_of_letter m x)
       ∙ ap (λ (w : List ℤ). reduce (flat_map (image_of_letter n) w)) (flat_map-identity (image_of_letter m x))
 

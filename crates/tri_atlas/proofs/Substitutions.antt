@@ -9,15 +9,33 @@
 -- is a conjugate of f(c), and conjugate words have cyclic reductions that are rotations of each other. A rotation of
 -- w splits it in two, so the images are rotations of each other too.
 use Rattle.std.proofs.Common.{ℤ, Bool, cond, List, [], ◌∷◌, ◌++◌, ◌≡◌, inl, inr, refl, sym, ◌∙◌, ap, subst}
-use Rattle.std.specs.List.{flat_map}
+use Rattle.std.specs.List.{All, flat_map}
 use Rattle.std.proofs.lemmas.List.{append-nil}
 use Rattle.std.proofs.lemmas.List.Concat.{flat_map-append}
+use Rattle.std.proofs.lemmas.List.Elements.{All-head, All-tail}
 use Rattle.ideal_tri.specs.Labels.{inverse}
 use Rattle.ideal_tri.specs.Words.{inverse_word, push, reduce, cyclic_reduce, IsRotation}
 use Rattle.ideal_tri.specs.Curves.{IsSameCurve}
-use Rattle.tri_atlas.specs.Maps.{IsOdd, after}
+use Rattle.tri_atlas.specs.Maps.{IsOdd, identity, after}
 use Rattle.tri_atlas.specs.MapLaws.{SubstitutionLaws}
 use Rattle.tri_atlas.proofs.LowerLaws.{LowerLaws}
+
+-- ---- substitutions that agree
+
+pub flat_map-identity : (w : List ℤ) → flat_map identity w ≡ w
+flat_map-identity [] = refl
+flat_map-identity (x ∷ w) = ap (λ (z : List ℤ). x ∷ z) (flat_map-identity w)
+
+pub flat_map-same : (f g : ℤ → List ℤ) (w : List ℤ) → ((x : ℤ) → f x ≡ g x) → flat_map f w ≡ flat_map g w
+flat_map-same f g [] e = refl
+flat_map-same f g (x ∷ w) e =
+    ap (λ (z : List ℤ). z ++ flat_map f w) (e x) ∙ ap (λ (z : List ℤ). g x ++ z) (flat_map-same f g w e)
+
+pub flat_map-same_at : (f g : ℤ → List ℤ) (w : List ℤ) → All (λ x. f x ≡ g x) w → flat_map f w ≡ flat_map g w
+flat_map-same_at f g [] h = refl
+flat_map-same_at f g (x ∷ w) h =
+    ap (λ (z : List ℤ). z ++ flat_map f w) (All-head (λ y. f y ≡ g y) x w h)
+    ∙ ap (λ (z : List ℤ). g x ++ z) (flat_map-same_at f g w (All-tail (λ y. f y ≡ g y) x w h))
 
 module _ (laws : LowerLaws) where
   -- ---- words
@@ -121,6 +139,8 @@ module _ (laws : LowerLaws) where
     reduced_before = reduce-flat_map_reduce;
     compose = λ f g w odd_f odd_g. flat_map-after f g w;
     odd = IsOdd-after;
+    none = flat_map-identity;
+    agree = flat_map-same_at;
     cyclic = cyclic_reduce-flat_map;
     curve = λ f u v odd same. laws.words.curves.reduced (flat_map f u) (flat_map f v)
         (SameCurve-flat_map f u v odd same);

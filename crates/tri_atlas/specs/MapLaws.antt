@@ -1,6 +1,6 @@
 -- What holds of substitutions, of the maps of moves and paths, and of walks under maps.
 use Rattle.std.specs.Prelude.{◌≡◌, ◌<◌, ℕ, ℤ, List, [], ◌∷◌, ◌++◌, length}
-use Rattle.std.specs.List.{flat_map}
+use Rattle.std.specs.List.{All, flat_map}
 use Rattle.ideal_tri.specs.Curves.{IsSameCurve}
 use Rattle.ideal_tri.specs.Words.{inverse_word, reduce, cyclic_reduce, IsRotation}
 use Rattle.ideal_tri.specs.Triangulations.{IsTriangulation, IsLabel, IsWalk}
@@ -16,6 +16,9 @@ pub record SubstitutionLaws : Type 0 where
   pub compose : (f g : ℤ → List ℤ) (w : List ℤ) → IsOdd f → IsOdd g
       → reduce (flat_map (after g f) w) ≡ reduce (flat_map g (flat_map f w))
   pub odd : (f g : ℤ → List ℤ) → IsOdd f → IsOdd g → IsOdd (after g f)
+  pub none : (w : List ℤ) → flat_map identity w ≡ w
+  pub agree : (f g : ℤ → List ℤ) (w : List ℤ) → All (λ x. f x ≡ g x) w
+      → flat_map f w ≡ flat_map g w
   pub cyclic : (f : ℤ → List ℤ) (w : List ℤ) → IsOdd f
       → IsRotation (cyclic_reduce (flat_map f (cyclic_reduce w))) (cyclic_reduce (flat_map f w))
   pub curve : (f : ℤ → List ℤ) (u v : List ℤ) → IsOdd f → IsSameCurve u v

@@ -4,7 +4,7 @@ use Rattle.std.specs.List.{range_with_len, flat_map}
 use Rattle.ideal_tri.specs.Labels.{edge_of}
 use Rattle.ideal_tri.specs.Strands.{State, state_at, words_of}
 use Rattle.ideal_tri.specs.Drawings.{strands_from, curves_among}
-use Rattle.free_groupoid.specs.Walks.{DualWalk, start_of}
+use Rattle.free_groupoid.specs.Walks.{DualWalk, walk_of_letters}
 use Rattle.strand_draw.specs.inside.Marks.{AreMarked}
 use Rattle.strand_draw.specs.declared.marks.Marks.{Marks}
 
@@ -14,13 +14,9 @@ strands_before w q =
     strands_from 0 (take (edge_of q.label) w)
     ++ map (state_at (pos (edge_of q.label))) (range_with_len 0 q.place)
 
--- the walk of these letters, from the triangle of the first
-abbrev pub walk_along : List (List ℤ) → List ℤ → DualWalk
-walk_along triples word = record { start = start_of triples 0 word; letters = word }
-
 -- the curves from those of the strands on that are least in them are listed, and their strands are
 -- marked
 pub record AreDrawn (triples : List (List ℤ)) (w : List ℕ) (before : List State)
     (m : Marks) (walks : List DualWalk) : Type 0 where
   pub marked : AreMarked w m (flat_map (λ run. run) (curves_among triples w before))
-  pub listed : walks ≡ map (walk_along triples) (words_of (curves_among triples w before))
+  pub listed : walks ≡ map (walk_of_letters triples) (words_of (curves_among triples w before))

@@ -5,7 +5,6 @@ use Rattle.std.specs.Ordering.{int_eq}
 use Rattle.ideal_tri.specs.Labels.{inverse}
 use Rattle.ideal_tri.specs.Triangulations.{next, previous}
 use Rattle.ideal_tri.specs.Vertices.{rank, ordered_labels}
-use Rattle.free_groupoid.specs.Walks.{DualWalk, start_of}
 use Rattle.train_track.specs.Tracks.{is_left_out, is_switch}
 use Rattle.train_track.specs.Branches.{are_before}
 
@@ -67,7 +66,3 @@ listed_from triples left_out x =
 -- all of them
 abbrev pub branch_words : List (List ℤ) → List ℤ → List (List ℤ)
 branch_words triples left_out = flat_map (listed_from triples left_out) (ordered_labels triples)
-
--- as walks
-abbrev pub walk_of : List (List ℤ) → List ℤ → DualWalk
-walk_of triples b = record { start = start_of triples 0 b; letters = b }

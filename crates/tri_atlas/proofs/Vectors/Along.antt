@@ -21,7 +21,8 @@ use Rattle.tri_atlas.specs.VectorLaws.{MovedLaws, AlongLaws}
 use Rattle.tri_atlas.proofs.Flips.{flip_edges}
 use Rattle.tri_atlas.proofs.LowerLaws.{LowerLaws}
 use Rattle.tri_atlas.proofs.Substitutions.{substitution_laws, flat_map-respects, flat_map-after}
-use Rattle.tri_atlas.proofs.Paths.{flat_map-identity, flat_map-same, path_map-odd, path_map-join, back_along-cons}
+use Rattle.tri_atlas.proofs.Substitutions.{flat_map-identity, flat_map-same}
+use Rattle.tri_atlas.proofs.Paths.{path_map-odd, path_map-join, back_along-cons}
 use Rattle.tri_atlas.proofs.Vectors.Given.{Given}
 use Rattle.tri_atlas.proofs.Vectors.FlipLaws.{flip_laws, unflip_laws, image_of_curves}
 use Rattle.tri_atlas.proofs.Vectors.RelabelledDrawings.{relabel_laws}

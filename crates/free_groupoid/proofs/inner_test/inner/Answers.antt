@@ -4,8 +4,16 @@ use Rattle.free_groupoid.specs.Inner.{IsKept}
 use Rattle.free_groupoid.specs.GroupoidMaps.{substitution}
 use Rattle.free_groupoid.specs.inside.Images.{IsBelow}
 use Rattle.free_groupoid.proofs.InnerSearch.{nothing_left, next_loop, search_on, search_done, loop_below, moved_first}
-use Rattle.free_groupoid.proofs.InnerSearch.{are_paths}
+use Rattle.free_groupoid.proofs.InnerSearch.{are_paths, search_all}
 use Rattle.free_groupoid.proofs.inner_test.inner.Goals as goal
+
+pub loop-word-init : goal.loop-word-init
+loop-word-init c = record {
+  can_next = tt;
+  is_finite = tt;
+  search = search_all _ _ _ (search rules)
+      (c.inner_laws.ensures.test.loops c.args.tri.now c.triangles.ensures.sound);
+}
 
 pub is_kept-requires : goal.is_kept-requires
 is_kept-requires c =

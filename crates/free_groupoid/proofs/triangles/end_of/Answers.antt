@@ -10,7 +10,7 @@ ends : (c : In-Some) (t : ℕ) → IsWalk c.args.tri.now c.args.walk.now.start c
     → IsLabel c.args.tri.now (inverse c.in-Some.x.now) × (triangle_of c.args.tri.now (inverse c.in-Some.x.now) ≡ t)
 ends c t h =
     let inside = rw (← c.walk.view_is) at h in
-    walk_to_end _ _ t _ c.in-Some.x.now (subst (λ (w : List ℤ). IsWalk c.args.tri.now c.walk.inside.start w t) (sym
+    walk_to_end c.label_laws.ensures _ _ t _ c.in-Some.x.now (subst (λ (w : List ℤ). IsWalk c.args.tri.now c.walk.inside.start w t) (sym
     c.deref.ensures.value) inside)
     (omega (arith, c.in-Some.ensures.item.3.0)) c.in-Some.ensures.item.1
 

@@ -7,7 +7,7 @@ returns-then-ne c =
     let some : c.args.letters.now ≢ [] = λ e. omega (arith, ap length e) in
     let other : c.x-item.result ≢ c.turn.result = not_equal _ _ _ c.ne.ensures c.if-ne.true in (
       λ t. search rules,
-      λ (e, h). absurd (turns_not _ _ _ _ _ _ _ c.loop-x.invariant c.loop-x-test.true c.x-item.is
+      λ (e, h). absurd (turns_not c.word_laws.ensures _ _ _ _ _ _ _ c.loop-x.invariant c.loop-x-test.true c.x-item.is
           (λ f. other (f ∙ (sym c.turn.ensures))) some c.index-letters-count.is h),
     )
 
@@ -19,6 +19,6 @@ loop-x-preserved c =
 pub returns : goal.returns
 returns c =
     let some : c.args.letters.now ≢ [] = λ e. omega (arith, ap length e) in (
-      λ t. (some, turns_all _ _ _ _ _ _ c.loop-x.invariant (omega arith) some c.index-letters-count.is),
+      λ t. (some, turns_all c.word_laws.ensures _ _ _ _ _ _ c.loop-x.invariant (omega arith) some c.index-letters-count.is),
       λ h. search rules,
     )

@@ -17,7 +17,7 @@ returns-else-eq-clause-between c =
     let apart : c.index-letters-count.result ≢ inverse c.index-letters-ends.result =
     λ e. not_from_Decides _ (Decides-int_eq c.index-letters-count.result c.inverse.result) (sym c.eq.ensures
     ∙ c.if-eq.false) (e ∙ sym c.inverse.ensures) in
-    ends_apart _ _ _ _ c.loop-ends.invariant (omega arith) c.index-letters-ends.is c.index-letters-count.is apart
+    ends_apart c.label_laws.ensures _ _ _ _ c.loop-ends.invariant (omega arith) c.index-letters-ends.is c.index-letters-count.is apart
 
 pub returns-after-loop-ends-clause-between : goal.returns-after-loop-ends-clause-between
 returns-after-loop-ends-clause-between c = all_stripped _ _ c.loop-ends.invariant (omega arith)

@@ -2,13 +2,13 @@ use Rattle.ideal_tri.specs.WordLaws.{InverseLaws, RotationLaws, ReductionLaws, C
 use Rattle.ideal_tri.proofs.Reduction.{inverse_word-append, inverse_word-inverse_word, length-inverse_word}
 use Rattle.ideal_tri.proofs.Reduction.{All-inverse_word, IsReduced-reduce, reduce-fixed, reduce-reduce, reduce-append}
 use Rattle.ideal_tri.proofs.Reduction.{reduce-left, reduce-right, reduce-cancel, reduce-inverse_word, reduce-deletion}
-use Rattle.ideal_tri.proofs.Reduction.{reduce-reached, reduce-only}
+use Rattle.ideal_tri.proofs.Reduction.{reduce-reached, reduce-only, IsReduced-front}
 use Rattle.ideal_tri.proofs.Rotations.{Rotation-refl, Rotation-sym, Rotation-trans, Rotation-length}
 use Rattle.ideal_tri.proofs.Rotations.{Rotation-inverse_word, Rotation-map, is_rotation-test, is_same_curve-test}
 use Rattle.ideal_tri.proofs.Rotations.{SameCurve-refl, SameCurve-sym, SameCurve-trans}
 use Rattle.ideal_tri.proofs.Cyclic.{cyclic_reduce-cyclic, cyclic_reduce-fixed, cyclic_reduce-shape}
 use Rattle.ideal_tri.proofs.Cyclic.{cyclic_reduce-conjugate, conjugate_of_rotation, cyclic_reduce-rotation}
-use Rattle.ideal_tri.proofs.Cyclic.{cyclic_reduce-inverse_word, cyclic_reduce-same_curve}
+use Rattle.ideal_tri.proofs.Cyclic.{cyclic_reduce-inverse_word, cyclic_reduce-same_curve, last_of-read}
 use Rattle.ideal_tri.proofs.laws.word_laws.Goals as goal
 
 inverses : InverseLaws
@@ -33,6 +33,7 @@ reduction : ReductionLaws
 reduction = record {
   is_reduced = IsReduced-reduce;
   fixed = reduce-fixed;
+  front = IsReduced-front;
   twice = reduce-reduce;
   append = reduce-append;
   left = reduce-left;
@@ -67,4 +68,11 @@ curves = record {
 
 pub returns : goal.returns
 returns c =
-    record { inverses = inverses; rotations = rotations; reduction = reduction; cyclic = cyclic; curves = curves }
+    record {
+      inverses = inverses;
+      rotations = rotations;
+      reduction = reduction;
+      cyclic = cyclic;
+      curves = curves;
+      last = last_of-read;
+    }

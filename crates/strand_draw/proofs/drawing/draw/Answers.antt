@@ -4,14 +4,13 @@ use Rattle.ideal_tri.specs.Triangulations.{edge_count}
 use Rattle.ideal_tri.specs.Strands.{State, words_of}
 use Rattle.ideal_tri.specs.Drawings.{curves_among, draw}
 use Rattle.tri_atlas.specs.Arena.{triangulation}
-use Rattle.free_groupoid.specs.Walks.{DualWalk, IsClosedOn}
-use Rattle.strand_draw.specs.inside.InOrder.{walk_along}
+use Rattle.free_groupoid.specs.Walks.{DualWalk, IsClosedOn, walk_of_letters}
 use Rattle.strand_draw.proofs.InOrder.{before-all}
 use Rattle.strand_draw.proofs.ClosedWalks.{letters-along}
 use Rattle.strand_draw.proofs.drawing.draw.Goals as goal
 
 all_drawn : (c : goal.After-drop-marks-2)
-    → c.loop-e.walks.items ≡ map (walk_along (triangulation c.args.atlas.now c.args.w.now.tri))
+    → c.loop-e.walks.items ≡ map (walk_of_letters (triangulation c.args.atlas.now c.args.w.now.tri))
     (words_of (draw (triangulation c.args.atlas.now c.args.w.now.tri) c.args.w.now.numbers))
 all_drawn c =
     let triples : List (List ℤ) = triangulation c.args.atlas.now c.args.w.now.tri in
@@ -22,7 +21,7 @@ all_drawn c =
     let full : c.loop-e.e ≡ length w =
     omega (arith, edges, c.loop-e-test.false, c.loop-e.auto.e-end, c.requires.coordinates.multicurve.one_per_edge) in
     c.loop-e.invariant.listed
-    ∙ ap (λ (z : List State). map (walk_along triples) (words_of (curves_among triples w z))) (before-all w c.loop-e.e
+    ∙ ap (λ (z : List State). map (walk_of_letters triples) (words_of (curves_among triples w z))) (before-all w c.loop-e.e
     full)
 
 pub returns-clause-words : goal.returns-clause-words

@@ -1,6 +1,5 @@
-use Rattle.std.proofs.Common.{ℤ, ◌≡◌, ◌<◌, arith, sym, ◌∙◌, ap, true, length}
-use Rattle.std.specs.Prelude.{IsTrue}
-use Rattle.ideal_tri.specs.Triangulations.{IsLabel, triangle_of, next}
+use Rattle.std.proofs.Common.{◌≡◌, arith, sym, ◌∙◌, ap}
+use Rattle.ideal_tri.specs.Triangulations.{next}
 use Rattle.train_track.specs.Tracks.{is_left_out}
 use Rattle.train_track.specs.inside.Corners.{two_of}
 use Rattle.train_track.proofs.LeftOut.{two_from, two_to, side_of_triple}

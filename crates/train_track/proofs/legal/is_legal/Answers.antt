@@ -1,4 +1,4 @@
-use Rattle.std.proofs.Common.{◌≡◌, false, true, refl, sym, ◌∙◌, subst, ap, arith, ℕ, ◌<◌, ◌+◌, get_or, pos}
+use Rattle.std.proofs.Common.{◌≡◌, false, true, refl, sym, ◌∙◌, subst, arith, ℕ, get_or, pos}
 use Rattle.std.specs.Prelude.{IsTrue}
 use Rattle.train_track.specs.inside.Growing.{is_legal_pair}
 use Rattle.train_track.proofs.LegalWalks.{legal_from, not_legal}

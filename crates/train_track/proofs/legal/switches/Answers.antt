@@ -1,4 +1,4 @@
-use Rattle.std.proofs.Common.{pos, sym, ◌∙◌, rules, ap}
+use Rattle.std.proofs.Common.{pos, sym, ◌∙◌, rules}
 use Rattle.train_track.specs.Tracks.{is_switch}
 use Rattle.train_track.proofs.Gathered.{kept_more, dropped_more}
 use Rattle.train_track.proofs.legal.switches.Goals as goal

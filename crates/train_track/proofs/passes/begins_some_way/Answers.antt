@@ -1,4 +1,4 @@
-use Rattle.std.proofs.Common.{◌≡◌, ◌-◌, sym, ◌∙◌, ap, arith, pos, inl, inr, length, ℕ, false, true}
+use Rattle.std.proofs.Common.{◌≡◌, ◌-◌, sym, ◌∙◌, ap, arith, pos, inl, inr, length}
 use Rattle.std.proofs.lemmas.Bool.{true≢false}
 use Rattle.std.proofs.lemmas.List.{get_or_default}
 use Rattle.ideal_tri.specs.Labels.{inverse}
@@ -26,8 +26,8 @@ returns c =
     ∙ ap (letter_at c.args.letters.now)
     (let e : length c.args.letters.now - 1 - 1 ≡ length c.args.letters.now - 2 = omega arith in e)) in (
       λ t. (let (a, b) = c.are_letters-2.ensures.0 t in
-          begins_back c.args.letters.now c.args.x c.args.y c.requires (sym last_is ∙ a) (sym second_is ∙ b)),
-      λ h. elim (begins_cases c.args.letters.now c.args.x c.args.y c.requires h) [
+          begins_back c.word_laws.ensures c.args.letters.now c.args.x c.args.y c.requires (sym last_is ∙ a) (sym second_is ∙ b)),
+      λ h. elim (begins_cases c.word_laws.ensures c.args.letters.now c.args.x c.args.y c.requires h) [
         | inl (a, b) ↦
             absurd (true≢false (sym (c.are_letters.ensures.1 (zero_is ∙ a, one_is ∙ b)) ∙ c.if-are_letters.false))
         | inr (a, b) ↦ c.are_letters-2.ensures.1 (last_is ∙ a, second_is ∙ b)

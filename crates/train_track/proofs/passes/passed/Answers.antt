@@ -1,6 +1,4 @@
-use Rattle.std.proofs.Common.{ℕ, ℤ, List, ◌≡◌, ◌<◌, ◌≤◌, sym, ◌∙◌, ap, subst, arith, length, get_or, [], inl, inr}
-use Rattle.std.proofs.Common.{false, true}
-use Rattle.std.specs.Prelude.{IsTrue}
+use Rattle.std.proofs.Common.{ℤ, List, ◌≡◌, ◌≤◌, sym, ◌∙◌, ap, subst, arith, length, get_or, [], inl, inr}
 use Rattle.std.proofs.lemmas.Bool.{cases_eq, true≢false}
 use Rattle.std.proofs.lemmas.List.{length-map}
 use Rattle.free_groupoid.specs.Walks.{DualWalk}

@@ -1,5 +1,5 @@
-use Rattle.std.proofs.Common.{ℕ, ℤ, List, ◌≡◌, ◌<◌, ◌+◌, ◌-◌, sym, ◌∙◌, ap, subst, arith, length, get_or, [], ◌∷◌, ◌++◌}
-use Rattle.std.proofs.Common.{pos, rules}
+use Rattle.std.proofs.Common.{ℕ, ℤ, List, ◌<◌, ◌+◌, ◌-◌, sym, ◌∙◌, ap, subst, arith, length, [], ◌∷◌, ◌++◌}
+use Rattle.std.proofs.Common.{pos}
 use Rattle.std.proofs.lemmas.List.{get_or_default, length-map}
 use Rattle.free_groupoid.specs.Walks.{DualWalk}
 use Rattle.train_track.specs.Branches.{letter_at, words_of}
@@ -23,7 +23,7 @@ passed-k-requires-clause-some c =
     (subst (λ (y : ℤ). (k : ℕ) × IsBeginning bs (letter_at w c.loop-i.i) y k)
     (sym (c.index-letters-i-in-loop-i.is ∙ get_or_default w (c.loop-i.i + 1) c.index-letters-i-in-loop-i.result (pos 0)
     more))
-    (some_begins bs w c.requires.cut c.loop-i.numbers.items c.loop-i.i c.loop-i.invariant more))
+    (some_begins c.word_laws.ensures bs w c.requires.cut c.loop-i.numbers.items c.loop-i.i c.loop-i.invariant more))
 
 pub loop-i-preserved : goal.loop-i-preserved
 loop-i-preserved c =
@@ -39,7 +39,7 @@ loop-i-preserved c =
     let within : c.passed-k.result < length c.args.branches.now =
     (let h = begins.0 in omega (arith, length-map c.args.branches.now (λ (w : DualWalk). w.letters))) in
     subst (λ (ns : List ℕ). IsCutUpTo bs w ns (c.loop-i.i + (c.length_of.result - 1))) (sym c.in_ok-push.ensures.items)
-    (cut_more bs w c.requires.cut c.loop-i.numbers.items c.loop-i.i c.passed-k.result c.length_of.result
+    (cut_more c.word_laws.ensures bs w c.requires.cut c.loop-i.numbers.items c.loop-i.i c.passed-k.result c.length_of.result
     c.loop-i.invariant more begins
     (sym (c.length_of.ensures ∙ ap length
     (word_at c.args.branches.now c.passed-k.result c.index-branches-k.result within c.index-branches-k.is))))
@@ -59,7 +59,7 @@ overflow_add-i-in-loop-i-2 c =
     (let h = begins.0 in omega (arith, length-map c.args.branches.now (λ (w : DualWalk). w.letters))) in
     let next : IsCutUpTo bs w (c.loop-i.numbers.items ++ (c.passed-k.result ∷ []))
     (c.loop-i.i + (c.length_of.result - 1)) =
-    cut_more bs w c.requires.cut c.loop-i.numbers.items c.loop-i.i c.passed-k.result c.length_of.result
+    cut_more c.word_laws.ensures bs w c.requires.cut c.loop-i.numbers.items c.loop-i.i c.passed-k.result c.length_of.result
     c.loop-i.invariant more begins
     (sym (c.length_of.ensures ∙ ap length
     (word_at c.args.branches.now c.passed-k.result c.index-branches-k.result here c.index-branches-k.is))) in
@@ -68,6 +68,6 @@ overflow_add-i-in-loop-i-2 c =
 
 pub returns : goal.returns
 returns c =
-    cut_all (words_of c.args.branches.now) c.args.letters.now c.requires.cut c.loop-i.numbers.items c.loop-i.i
+    cut_all c.word_laws.ensures (words_of c.args.branches.now) c.args.letters.now c.requires.cut c.loop-i.numbers.items c.loop-i.i
     c.loop-i.invariant
     c.loop-i-test.false

@@ -2,7 +2,7 @@ use Rattle.std.proofs.Common.{sym, ◌∙◌, ap, arith}
 use Rattle.ideal_tri.specs.Triangulations.{edge_count}
 use Rattle.ideal_tri.specs.Vertices.{rank}
 use Rattle.ideal_tri.proofs.Triangles.{triangle_laws}
-use Rattle.ideal_tri.proofs.Turning.{rank_below}
+use Rattle.ideal_tri.proofs.Order.{rank_below}
 use Rattle.ideal_tri.proofs.Vertices.{firsts, vertex_of-is}
 use Rattle.ideal_tri.proofs.tri.Tri.vertex.Goals as goal
 

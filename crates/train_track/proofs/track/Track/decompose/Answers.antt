@@ -1,4 +1,4 @@
-use Rattle.std.proofs.Common.{List, ℤ, ℕ, map, ◌≡◌, sym, ◌∙◌, ap, subst}
+use Rattle.std.proofs.Common.{List, ℤ, map, ◌≡◌, sym, ◌∙◌, ap, subst}
 use Rattle.std.specs.Prelude.{IfOk}
 use Rattle.free_groupoid.specs.Walks.{DualWalk}
 use Rattle.train_track.specs.Branches.{TrainTrack, words_of}

@@ -8,4 +8,4 @@ pub of_corners-requires-clause-placed : goal.of_corners-requires-clause-placed
 of_corners-requires-clause-placed c =
     subst (λ (t : ℕ). ArePlaced (triangulation c.args.atlas.now t) c.in_ok-left_out.left_out.items) (sym c.tri.ensures)
     (subst (ArePlaced (triangulation c.args.atlas.now c.args.w.now.tri)) (sym c.in_ok-left_out.ensures)
-    (free_placed (triangulation c.args.atlas.now c.args.w.now.tri) c.args.w.now.numbers))
+    (free_placed c.label_laws.ensures (triangulation c.args.atlas.now c.args.w.now.tri) c.args.w.now.numbers))

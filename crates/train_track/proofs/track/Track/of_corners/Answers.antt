@@ -1,4 +1,4 @@
-use Rattle.std.proofs.Common.{ℕ, Option, subst}
+use Rattle.std.proofs.Common.{subst}
 use Rattle.std.specs.Prelude.{IfNone}
 use Rattle.train_track.specs.Tracks.{IsOpenAtVertices}
 use Rattle.train_track.proofs.Made.{track_in}
