@@ -5,7 +5,7 @@ use Rattle.std.specs.Prelude.{codes, pos}
 use Rattle.tri_atlas.specs.Moves.{flip}
 use Rattle.tri_atlas.specs.Arena.{Arena, MoveHandle}
 use Rattle.surface_lib.specs.Words.{Generator}
-use Rattle.surface_lib.specs.Refusals.{reading}
+use Rattle.surface_lib.specs.Refusals.{handles_kind, reading}
 use Rattle.surface_lib.specs.declared.error.WordError.{WordError}
 use Rattle.surface_lib.specs.declared.error.WordError.TheVariants.{BadGroup, EmptyPart, UnknownName, BadPower}
 use Rattle.surface_lib.specs.declared.error.WordError.TheVariants.{PartsOver}
@@ -24,11 +24,11 @@ m k = record { number = k; backwards = false }
 abbrev w : ℕ → MoveHandle
 w k = record { number = k; backwards = true }
 
-abbrev generators : List Generator
+abbrev generators : List (Generator MoveHandle)
 generators = record { spelt = codes "a"; moves = m 0 ∷ m 1 ∷ [] } ∷ record { spelt = codes "b"; moves = m 2 ∷ [] } ∷ []
 
 abbrev read : List ℕ → Result (List MoveHandle) WordError
-read s = reading arena generators s
+read s = reading (handles_kind arena) generators s
 
 -- ---- paths
 

@@ -12,4 +12,17 @@ pub mod Carried
 pub mod Written
 pub mod Long
 pub mod Sizes
+pub mod Stepped
 mod Examples
+mod GeneratorExamples
+pub mod Entries
+pub mod Flips
+pub mod FlipsRead
+pub mod NewNames
+pub mod Grown
+pub mod ManyRead
+pub mod FileRefusals
+pub mod TestedBases
+pub mod TestedRelabellings
+pub mod ClosedForms
+pub mod MadeSurfaces

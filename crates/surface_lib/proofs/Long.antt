@@ -4,24 +4,24 @@
 -- of the empty word, of two words behind each other, since names and moves are added, and of a power, since both are
 -- multiplied by the same number. So it holds of each piece and, by induction on the pieces and on the levels, of a
 -- text. The flips are some of the moves.
-use Rattle.std.proofs.Common.{◌≤◌, ◌+◌, ◌*◌, ℕ, zero, suc, Bool, true, false, cond, List, [], ◌∷◌, length, map, Option}
+use Rattle.std.proofs.Common.{◌≤◌, ◌+◌, ◌*◌, ℕ, zero, suc, Bool, true, false, cond, List, [], ◌∷◌, length, Option}
 use Rattle.std.proofs.Common.{Some, None, arith, length-append, All}
 use Rattle.std.proofs.Math.Nat.{mul-le-mul_left}
 use Rattle.std.proofs.lemmas.List.Elements.{All-head, All-tail}
 use Rattle.std.specs.Prelude.{if◌then◌else◌, String, string_bytes}
 use Rattle.std.proofs.lemmas.List.Sums.{count_by-le-length}
-use Rattle.std.proofs.lemmas.List.{length-map}
 use Rattle.std.specs.List.{find}
 use Rattle.std.specs.Option.{option_map}
 use Rattle.std.specs.Str.{bytes_eq}
 use Rattle.std.specs.declared.alloc.Global.{Global}
-use Rattle.tri_atlas.specs.Arena.{Arena, MoveHandle, step_of}
-use Rattle.tri_atlas.specs.Paths.{MovePath, is_flip}
+use Rattle.tri_atlas.specs.Arena.{Arena, MoveHandle, back}
+use Rattle.tri_atlas.specs.Paths.{MovePath}
 use Rattle.surface_lib.specs.Pieces.{Piece, empty, group, name, piece, pieces}
 use Rattle.surface_lib.specs.Powers.{power}
-use Rattle.surface_lib.specs.Words.{Generator, moves_of, moves_named, is_upper, backwards, taken_if, named_if}
+use Rattle.surface_lib.specs.Words.{Names, moves_of, moves_named, backwards, taken_if, named_if}
+use Rattle.surface_lib.specs.Spelling.{is_upper}
 use Rattle.surface_lib.specs.Words.{value_of_piece, value_of_pieces, value_of_text}
-use Rattle.surface_lib.specs.Refusals.{flips_among}
+use Rattle.surface_lib.specs.Refusals.{handles_kind, flips_among}
 use Rattle.surface_lib.specs.Surfaces.{generators_in, generator_of, IsGenerator}
 use Rattle.surface_lib.specs.declared.power.Power.{Power}
 use Rattle.surface_lib.proofs.Backwards.{length-backwards, length-turned}
@@ -45,16 +45,16 @@ short_found t arena (e ∷ es) all =
     by true later = let short = (All-head (IsGenerator arena) e es all).short in omega (arith, short)
     by false later = later
 
-short_backwards : (m : Option (List MoveHandle)) → IsShort m → IsShort (option_map backwards m)
+short_backwards : (m : Option (List MoveHandle)) → IsShort m → IsShort (option_map (backwards back) m)
 short_backwards None h = tt
 short_backwards (Some moves) h = omega (arith, h, length-backwards moves)
 
 short_named : (arena : Arena) (es : List (String Global × MovePath)) → All (IsGenerator arena) es
-    → (s : List ℕ) → IsShort (moves_named (generators_in es) s)
+    → (s : List ℕ) → IsShort (moves_named back (generators_in es) s)
 short_named arena es all [] = tt
 short_named arena es all (c ∷ s) = by (is_upper c)
   where
-    by : (b : Bool) → IsShort (if b then option_map backwards (moves_of ((c + 32) ∷ s) (generators_in es)) else
+    by : (b : Bool) → IsShort (if b then option_map (backwards back) (moves_of ((c + 32) ∷ s) (generators_in es)) else
         moves_of (c ∷ s) (generators_in es))
     by true = short_backwards (moves_of ((c + 32) ∷ s) (generators_in es)) (short_found ((c + 32) ∷ s) arena es all)
     by false = short_found (c ∷ s) arena es all
@@ -75,7 +75,7 @@ few_joined a b p q = omega (arith, p, q, length-append a.moves b.moves)
 few_taken : (k : Power) (a : Written) → IsFew a → IsFew (written.taken k a)
 unfolding IsFew
 few_taken k a p =
-    let n = length-repeat k.times (if k.backwards then backwards a.moves else a.moves) in
+    let n = length-repeat k.times (if k.backwards then backwards back a.moves else a.moves) in
     let m = length-turned k.backwards a.moves in
     let all : k.times * length a.moves ≤ k.times * (a.names * 2147483648) = mul-le-mul_left k.times p in
     grind (arith, n, m, all)
@@ -89,41 +89,35 @@ unfolding IsFew
 few_named None h = omega arith
 few_named (Some moves) h = omega (arith, h)
 
-few_piece : (generators : List Generator) → ((s : List ℕ) → IsShort (moves_named generators s)) → (f : List ℕ → Written)
-    → ((s : List ℕ) → IsFew (f s)) → (q : Piece) → IsFew (value_of_piece written generators f q)
-few_piece generators short f inside empty = few_none
-few_piece generators short f inside (group s k) = few_taken_if (f s) (power k) (inside s)
-few_piece generators short f inside (name s k) =
-    few_taken_if (named_if written (moves_named generators s)) (power k) (few_named (moves_named generators s) (short
+few_piece : (names : Names MoveHandle) → ((s : List ℕ) → IsShort (names s)) → (f : List ℕ → Written)
+    → ((s : List ℕ) → IsFew (f s)) → (q : Piece) → IsFew (value_of_piece written names f q)
+few_piece names short f inside empty = few_none
+few_piece names short f inside (group s k) = few_taken_if (f s) (power k) (inside s)
+few_piece names short f inside (name s k) =
+    few_taken_if (named_if written (names s)) (power k) (few_named (names s) (short
     s))
 
-few_pieces : (generators : List Generator) → ((s : List ℕ) → IsShort (moves_named generators s)) → (f : List ℕ
+few_pieces : (names : Names MoveHandle) → ((s : List ℕ) → IsShort (names s)) → (f : List ℕ
     → Written)
     → ((s : List ℕ) → IsFew (f s)) → (qs : List (List ℕ)) (v : Written) → IsFew v
-    → IsFew (value_of_pieces written generators f v qs)
-few_pieces generators short f inside [] v p = p
-few_pieces generators short f inside (q ∷ qs) v p =
-    few_pieces generators short f inside qs (written.joined v (value_of_piece written generators f (piece q)))
-    (few_joined v (value_of_piece written generators f (piece q)) p (few_piece generators short f inside (piece q)))
+    → IsFew (value_of_pieces written names f v qs)
+few_pieces names short f inside [] v p = p
+few_pieces names short f inside (q ∷ qs) v p =
+    few_pieces names short f inside qs (written.joined v (value_of_piece written names f (piece q)))
+    (few_joined v (value_of_piece written names f (piece q)) p (few_piece names short f inside (piece q)))
 
-few_text : (generators : List Generator) → ((s : List ℕ) → IsShort (moves_named generators s)) → (k : ℕ) (s : List ℕ)
-    → IsFew (value_of_text written generators k s)
-few_text generators short zero s = few_none
-few_text generators short (suc k) s =
-    few_pieces generators short (value_of_text written generators k) (few_text generators short k) (pieces s)
+few_text : (names : Names MoveHandle) → ((s : List ℕ) → IsShort (names s)) → (k : ℕ) (s : List ℕ)
+    → IsFew (value_of_text written names k s)
+few_text names short zero s = few_none
+few_text names short (suc k) s =
+    few_pieces names short (value_of_text written names k) (few_text names short k) (pieces s)
     written.none few_none
 
 pub moves_bound : (arena : Arena) (es : List (String Global × MovePath)) → All (IsGenerator arena) es
     → (k : ℕ) (s : List ℕ)
-    → let w : Written = value_of_text written (generators_in es) k s in length w.moves ≤ w.names * 2147483648
+    → let w : Written = value_of_text written (moves_named back (generators_in es)) k s in length w.moves ≤ w.names * 2147483648
 unfolding IsFew
-moves_bound arena es all k s = few_text (generators_in es) (short_named arena es all) k s
+moves_bound arena es all k s = few_text (moves_named back (generators_in es)) (short_named arena es all) k s
 
-pub flips_bound : (arena : Arena) (moves : List MoveHandle) → flips_among arena moves ≤ length moves
-flips_bound arena moves =
-    let few = count_by-le-length is_flip (map (step_of arena) moves) in omega (
-      arith,
-      few,
-      length-map moves (step_of
-          arena),
-    )
+pub flips_bound : (arena : Arena) (moves : List MoveHandle) → flips_among (handles_kind arena) moves ≤ length moves
+flips_bound arena moves = count_by-le-length (handles_kind arena).is_flip moves

@@ -6,7 +6,7 @@ use Rattle.std.specs.List.{repeat}
 use Rattle.tri_atlas.specs.Arena.{Arena, MoveHandle, IsTriIn}
 use Rattle.tri_atlas.specs.Paths.{MovePath, IsPathIn, empty_path, joined}
 use Rattle.surface_lib.specs.Pieces.{pieces}
-use Rattle.surface_lib.specs.Words.{Generator, Target, value_of_pieces, value_of_text}
+use Rattle.surface_lib.specs.Words.{Names, Target, value_of_pieces, value_of_text}
 use Rattle.surface_lib.specs.Surfaces.{IsLoop}
 use Rattle.surface_lib.proofs.Levels.{value_of_level}
 
@@ -24,16 +24,16 @@ loop_is_empty arena b path e is here = subst (IsLoop arena) (sym e) (loop_at_bas
 
 -- ---- the first pieces of a level
 
-pub value_begins : {V : Type 0} (target : Target V) (generators : List Generator) (levels : ℕ) (s : List ℕ) (v : V) (qs
+pub value_begins : {M V : Type 0} (target : Target M V) (names : Names M) (levels : ℕ) (s : List ℕ) (v : V) (qs
     : List (List ℕ))
     → v ≡ target.none → qs ≡ pieces s → (levels ≡ 0 → ⊥)
-    → value_of_pieces target generators (value_of_text target generators (levels - 1)) v qs
-    ≡ value_of_text target generators levels s
-value_begins {V} target generators levels s v qs none all some =
-    ap (λ (z : V). value_of_pieces target generators (value_of_text target generators (levels - 1)) z qs) none
-    ∙ ap (λ (z : List (List ℕ)). value_of_pieces target generators (value_of_text target generators (levels - 1))
+    → value_of_pieces target names (value_of_text target names (levels - 1)) v qs
+    ≡ value_of_text target names levels s
+value_begins {M} {V} target names levels s v qs none all some =
+    ap (λ (z : V). value_of_pieces target names (value_of_text target names (levels - 1)) z qs) none
+    ∙ ap (λ (z : List (List ℕ)). value_of_pieces target names (value_of_text target names (levels - 1))
     target.none z) all
-    ∙ value_of_level target generators levels s some
+    ∙ value_of_level target names levels s some
 
 -- ---- repeated
 

@@ -4,7 +4,8 @@ use Rattle.std.proofs.Common.{◌≡◌, refl}
 use Rattle.std.specs.Prelude.{◌==◌, ◌&&◌, nat_le, if◌then◌else◌}
 use Rattle.std.proofs.lemmas.Grind.{common_steps}
 use Rattle.surface_lib.specs.Pieces.{power_sign}
-use Rattle.surface_lib.specs.Powers.{power_limit, is_digit, number_of, exponent, with_times, signed, power}
+use Rattle.surface_lib.specs.Spelling.{is_digit}
+use Rattle.surface_lib.specs.Powers.{power_limit, number_of, exponent, with_times, signed, power}
 use Rattle.surface_lib.specs.declared.power.Power.{Power}
 
 abbrev pub IsSmall : Option Power → Type 0

@@ -14,7 +14,7 @@ use Rattle.tri_atlas.specs.Arena.{MoveHandle}
 use Rattle.surface_lib.specs.Pieces.{open_bracket, close_bracket, dot, dots, depth_after, before, parts, pieces}
 use Rattle.surface_lib.specs.Pieces.{in_front, piece, group_behind, name_in, before_first, power_sign}
 use Rattle.surface_lib.specs.Powers.{power}
-use Rattle.surface_lib.specs.Words.{Generator, names_written, moves_named, taken_if, named_if, value_of_piece}
+use Rattle.surface_lib.specs.Words.{Names, names_written, taken_if, named_if, value_of_piece}
 use Rattle.surface_lib.specs.Words.{value_of_pieces, value_of_text}
 use Rattle.surface_lib.specs.declared.power.Power.{Power}
 use Rattle.surface_lib.proofs.Small.{IsSmall, power_small}
@@ -84,7 +84,7 @@ at_least_one zero = omega arith
 at_least_one (suc k) = omega (arith, at_least_one k)
 
 taken_bound : (n d e p : ℕ) (k : Option Power) → IsSmall k → n ≤ d * p → d ≤ e
-    → taken_if names_written n k ≤ e * (4096 * p)
+    → taken_if (names_written {M = MoveHandle}) n k ≤ e * (4096 * p)
 taken_bound n d e p None small names more = zero-le
 taken_bound n d e p (Some k) small names more = scaled k.times n d e p small names more
 
@@ -92,15 +92,15 @@ named_bound : (moves : Option (List MoveHandle)) (p : ℕ) → 1 ≤ p → named
 named_bound None p some = omega arith
 named_bound (Some moves) p some = omega arith
 
-piece_bound : (generators : List Generator) (f : List ℕ → ℕ) (k : ℕ) → ((u : List ℕ) → f u ≤ (dots u + 1) * scale k)
-    → (q : List ℕ) → value_of_piece names_written generators f (piece q) ≤ (dots q + 1) * (4096 * scale k)
-piece_bound generators f k inside [] = zero-le
-piece_bound generators f k inside (c ∷ s) = by (c == open_bracket)
+piece_bound : (names : Names MoveHandle) (f : List ℕ → ℕ) (k : ℕ) → ((u : List ℕ) → f u ≤ (dots u + 1) * scale k)
+    → (q : List ℕ) → value_of_piece names_written names f (piece q) ≤ (dots q + 1) * (4096 * scale k)
+piece_bound names f k inside [] = zero-le
+piece_bound names f k inside (c ∷ s) = by (c == open_bracket)
   where
     group_dots : dots (take (before close_bracket 0 s) s) + 1 ≤ dots (c ∷ s) + 1
     group_dots = omega (arith, take_dots (before close_bracket 0 s) s, dots-cons c s)
 
-    by : (b : Bool) → value_of_piece names_written generators f (if b then group_behind s else name_in (c ∷ s))
+    by : (b : Bool) → value_of_piece names_written names f (if b then group_behind s else name_in (c ∷ s))
         ≤ (dots (c ∷ s) + 1) * (4096 * scale k)
     by true = taken_bound _ (dots (take (before close_bracket 0 s) s) + 1) _ (scale k) (power (drop (before
         close_bracket 0 s + 1) s))
@@ -108,30 +108,30 @@ piece_bound generators f k inside (c ∷ s) = by (c == open_bracket)
     by false =
         let n : ℕ = before_first power_sign (c ∷ s) in
         taken_bound _ 1 _ (scale k) (power (drop n (c ∷ s))) (power_small (drop n (c ∷ s)))
-        (named_bound (moves_named generators (take n (c ∷ s))) (scale k) (at_least_one k)) (omega arith)
+        (named_bound (names (take n (c ∷ s))) (scale k) (at_least_one k)) (omega arith)
 
-pieces_bound : (generators : List Generator) (f : List ℕ → ℕ) (k : ℕ) → ((u : List ℕ) → f u ≤ (dots u + 1) * scale k)
-    → (qs : List (List ℕ)) (v : ℕ) → value_of_pieces names_written generators f v qs ≤ v + weight qs * (4096 * scale k)
-pieces_bound generators f k inside [] v = omega arith
-pieces_bound generators f k inside (q ∷ qs) v =
-    let first = piece_bound generators f k inside q in
-    let others = pieces_bound generators f k inside qs (v + value_of_piece names_written generators f (piece q)) in
+pieces_bound : (names : Names MoveHandle) (f : List ℕ → ℕ) (k : ℕ) → ((u : List ℕ) → f u ≤ (dots u + 1) * scale k)
+    → (qs : List (List ℕ)) (v : ℕ) → value_of_pieces names_written names f v qs ≤ v + weight qs * (4096 * scale k)
+pieces_bound names f k inside [] v = omega arith
+pieces_bound names f k inside (q ∷ qs) v =
+    let first = piece_bound names f k inside q in
+    let others = pieces_bound names f k inside qs (v + value_of_piece names_written names f (piece q)) in
     omega (arith, first, others)
 
-pub names_bound : (generators : List Generator) (k : ℕ) (s : List ℕ)
-    → value_of_text names_written generators k s ≤ (dots s + 1) * scale k
-names_bound generators zero s = zero-le
-names_bound generators (suc k) s =
-    let all = pieces_bound generators (value_of_text names_written generators k) k (names_bound generators k) (pieces
+pub names_bound : (names : Names MoveHandle) (k : ℕ) (s : List ℕ)
+    → value_of_text names_written names k s ≤ (dots s + 1) * scale k
+names_bound names zero s = zero-le
+names_bound names (suc k) s =
+    let all = pieces_bound names (value_of_text names_written names k) k (names_bound names k) (pieces
     s) 0 in
     let few : weight (pieces s) * (4096 * scale k) ≤ (dots s + 1) * (4096 * scale k) =
     mul-le-mul_right (4096 * scale k) (pieces_weight s) in
     omega (arith, all, few)
 
 -- with few dots the number of names is below 2^128
-pub few_names : (generators : List Generator) (s : List ℕ) → dots s + 1 ≤ 4096
-    → value_of_text names_written generators 9 s < 2 ^ 128
-few_names generators s few =
-    let all = names_bound generators 9 s in
+pub few_names : (names : Names MoveHandle) (s : List ℕ) → dots s + 1 ≤ 4096
+    → value_of_text names_written names 9 s < 2 ^ 128
+few_names names s few =
+    let all = names_bound names 9 s in
     let most : (dots s + 1) * scale 9 ≤ 4096 * scale 9 = mul-le-mul_right (scale 9) few in
     omega (arith, all, most)

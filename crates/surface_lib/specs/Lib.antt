@@ -1,6 +1,17 @@
+pub mod Json
+pub mod Spelling
 pub mod Pieces
 pub mod Powers
 pub mod Words
 pub mod Refusals
 pub mod Surfaces
+pub mod Described
+pub mod Readings
+pub mod Products
+pub mod FlipsForms
+pub mod TwistForms
+pub mod GeneratorFiles
+pub mod SurfaceKeys
+pub mod SurfaceFiles
+pub mod BuiltinSurfaces
 pub mod inside

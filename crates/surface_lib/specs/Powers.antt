@@ -3,14 +3,12 @@
 use Rattle.std.specs.Prelude.{ℕ, ◌+◌, ◌-◌, ◌*◌, Bool, true, false, ◌&&◌, ◌==◌, nat_le, List, []}
 use Rattle.std.specs.Prelude.{◌∷◌, Option, Some, None, if◌then◌else◌}
 use Rattle.surface_lib.specs.Pieces.{power_sign}
+use Rattle.surface_lib.specs.Spelling.{is_digit}
 use Rattle.surface_lib.specs.declared.power.Power.{Power}
 
 -- the largest exponent
 abbrev pub power_limit : ℕ
 power_limit = 4096
-
-abbrev pub is_digit : ℕ → Bool
-is_digit c = nat_le 48 c && nat_le c 57
 
 -- the number with these four digits, if it is at least 1 and at most the limit
 abbrev pub number_of : ℕ → ℕ → ℕ → ℕ → Option ℕ

@@ -1,35 +1,25 @@
 -- What contracts see of a surface.
-use Rattle.std.specs.Prelude.{◌≡◌, ◌<◌, ◌^◌, ℕ, List, map, length, All, String, string_bytes, Bool}
-use Rattle.std.specs.Prelude.{true, false, ◌&&◌, ◌||◌, ◌==◌, nat_le, [], ◌∷◌}
-use Rattle.std.specs.List.{list_all}
+use Rattle.std.specs.Prelude.{◌≡◌, ◌<◌, ◌^◌, List, map, length, All, String, string_bytes}
+use Rattle.std.specs.Prelude.{true}
 use Rattle.std.specs.declared.alloc.Global.{Global}
-use Rattle.tri_atlas.specs.Arena.{Arena, MoveHandle}
+use Rattle.tri_atlas.specs.Arena.{Arena, MoveHandle, back}
 use Rattle.tri_atlas.specs.Paths.{MovePath, IsPathIn}
-use Rattle.surface_lib.specs.Words.{Generator}
+use Rattle.surface_lib.specs.Spelling.{is_generator_name}
+use Rattle.surface_lib.specs.Words.{Generator, Names, moves_named}
 use Rattle.surface_lib.specs.declared.surface.Surface.{Surface}
 
-abbrev pub generator_of : String Global × MovePath → Generator
+abbrev pub generator_of : String Global × MovePath → Generator MoveHandle
 generator_of e = record { spelt = string_bytes e.0; moves = e.1.moves }
 
-abbrev pub generators_in : List (String Global × MovePath) → List Generator
+abbrev pub generators_in : List (String Global × MovePath) → List (Generator MoveHandle)
 generators_in entries = map generator_of entries
 
-abbrev pub generators_of : Surface → List Generator
+abbrev pub generators_of : Surface → List (Generator MoveHandle)
 generators_of s = generators_in s.generators.entries
 
--- ---- names
-
-abbrev pub is_lower : ℕ → Bool
-is_lower c = nat_le 97 c && nat_le c 122
-
--- a lower-case letter, a digit or `_`
-abbrev pub is_name_byte : ℕ → Bool
-is_name_byte c = is_lower c || ((nat_le 48 c && nat_le c 57) || c == 95)
-
--- a generator's name: a lower-case letter, and at most 15 more bytes
-abbrev pub is_generator_name : List ℕ → Bool
-is_generator_name [] = false
-is_generator_name (c ∷ s) = is_lower c && (nat_le (length s) 15 && list_all is_name_byte s)
+-- the names of a surface's generators and of their inverses
+abbrev pub names_of : Surface → Names MoveHandle
+names_of s = moves_named back (generators_of s)
 
 -- ---- surfaces
 

@@ -3,7 +3,7 @@ ghost use Rattle.std.specs.Prelude.{◌≡◌, IfSome};
 ghost use Rattle.surface_lib.specs.Pieces.{piece};
 ghost use Rattle.surface_lib.specs.Powers.{power};
 ghost use Rattle.surface_lib.specs.Words.{taken_if, named_if, value_of_piece, value_of_text};
-ghost use Rattle.surface_lib.specs.Surfaces.{generators_of, IsSurface, IsLoop};
+ghost use Rattle.surface_lib.specs.Surfaces.{names_of, IsSurface, IsLoop};
 ghost use Rattle.surface_lib.specs.inside.Counted.{counted, both, times};
 ghost use Rattle.surface_lib.specs.inside.Found.{moves_found};
 ghost use Rattle.tri_atlas.specs.Arena.{Arena};
@@ -80,7 +80,7 @@ fn of_name(s: &Surface, named: Option<Named<'_>>) -> Counts
 #[cycle(counted)]
 pub(crate) fn count_text(s: &Surface, levels: u32, text: &[u8]) -> Counts
     requires { IsSurface s.now }
-    ensures { result ≡ value_of_text (counted s.now.atlas) (generators_of s.now) levels text.now }
+    ensures { result ≡ value_of_text (counted s.now.atlas) (names_of s.now) levels text.now }
 {
     if levels == 0 {
         return NONE;
@@ -99,8 +99,8 @@ pub(crate) fn count_text(s: &Surface, levels: u32, text: &[u8]) -> Counts
 #[cycle(counted)]
 fn count_piece(s: &Surface, levels: u32, text: &[u8]) -> Counts
     requires { IsSurface s.now }
-    ensures { result ≡ value_of_piece (counted s.now.atlas) (generators_of s.now)
-        (value_of_text (counted s.now.atlas) (generators_of s.now) levels) (piece text.now) }
+    ensures { result ≡ value_of_piece (counted s.now.atlas) (names_of s.now)
+        (value_of_text (counted s.now.atlas) (names_of s.now) levels) (piece text.now) }
 {
     match read_piece(text) {
         Piece::Empty => NONE,

@@ -2,10 +2,12 @@
 ghost use Rattle.std.specs.Prelude.{◌≡◌, ◌∷◌, IfSome};
 ghost use Rattle.std.specs.Option.{option_map};
 ghost use Rattle.std.specs.Str.{bytes_eq};
-ghost use Rattle.surface_lib.specs.Words.{is_upper, moves_of, moves_named};
-ghost use Rattle.surface_lib.specs.Surfaces.{generators_of, IsSurface, IsLoop};
+ghost use Rattle.surface_lib.specs.Spelling.{is_upper};
+ghost use Rattle.surface_lib.specs.Words.{moves_of};
+ghost use Rattle.surface_lib.specs.Surfaces.{generators_of, names_of, IsSurface, IsLoop};
 ghost use Rattle.surface_lib.specs.inside.Found.{moves_found};
 
+use crate::spelling::is_upper;
 use crate::surface::Surface;
 use tri_atlas::Path;
 
@@ -20,7 +22,7 @@ pub(crate) struct Named<'a> {
 pub(crate) fn generator_named<'a>(s: &'a Surface, name: &[u8]) -> Option<Named<'a>>
     requires { IsSurface s.now }
     ensures closed { IfSome result (λ n. IsLoop s.now.atlas n.path.now) }
-    ensures found { moves_found result ≡ moves_named (generators_of s.now) name.now }
+    ensures found { moves_found result ≡ names_of s.now name.now }
 {
     match name {
         [] => None,
@@ -31,18 +33,12 @@ pub(crate) fn generator_named<'a>(s: &'a Surface, name: &[u8]) -> Option<Named<'
 fn with_first<'a>(s: &'a Surface, first: u8, rest: &[u8]) -> Option<Named<'a>>
     requires { IsSurface s.now }
     ensures closed { IfSome result (λ n. IsLoop s.now.atlas n.path.now) }
-    ensures found { moves_found result ≡ moves_named (generators_of s.now) (first ∷ rest.now) }
+    ensures found { moves_found result ≡ names_of s.now (first ∷ rest.now) }
 {
     let backwards = is_upper(first);
     let lower = if backwards { first + 32 } else { first };
     let path = find(s, lower, rest)?;
     Some(Named { path, backwards })
-}
-
-fn is_upper(c: u8) -> bool
-    ensures { result ≡ is_upper c }
-{
-    b'A' <= c && c <= b'Z'
 }
 
 /// The path of the generator whose name has this first byte and these behind it.

@@ -1,11 +1,12 @@
 //! The path of a text that is a word.
 ghost use Rattle.std.specs.Prelude.{◌≡◌, IfOk, IfSome};
 ghost use Rattle.std.specs.List.{repeat};
+ghost use Rattle.tri_atlas.specs.Arena.{back};
 ghost use Rattle.surface_lib.specs.Pieces.{piece};
 ghost use Rattle.surface_lib.specs.Powers.{power};
 ghost use Rattle.surface_lib.specs.Words.{moves_written, taken_if, named_if, value_of_piece};
 ghost use Rattle.surface_lib.specs.Words.{value_of_text};
-ghost use Rattle.surface_lib.specs.Surfaces.{generators_of, IsSurface, IsLoop};
+ghost use Rattle.surface_lib.specs.Surfaces.{names_of, IsSurface, IsLoop};
 ghost use Rattle.surface_lib.specs.inside.Found.{moves_found};
 
 use crate::names::{Named, generator_named};
@@ -27,7 +28,7 @@ pub(crate) fn path_of_text(
     requires { IsSurface s.now }
     ensures closed { IfOk result (IsLoop s.now.atlas) }
     ensures moves { IfOk result
-        (λ p. p.moves ≡ value_of_text moves_written (generators_of s.now) levels text.now) }
+        (λ p. p.moves ≡ value_of_text (moves_written back) (names_of s.now) levels text.now) }
 {
     let mut path = Path::new(alloc, s.atlas.base());
     if levels == 0 {
@@ -48,8 +49,8 @@ pub(crate) fn path_of_text(
 fn path_of_piece(alloc: Global, s: &Surface, levels: u32, text: &[u8]) -> Result<Path, Memory>
     requires { IsSurface s.now }
     ensures closed { IfOk result (IsLoop s.now.atlas) }
-    ensures moves { IfOk result (λ p. p.moves ≡ value_of_piece moves_written (generators_of s.now)
-        (value_of_text moves_written (generators_of s.now) levels) (piece text.now)) }
+    ensures moves { IfOk result (λ p. p.moves ≡ value_of_piece (moves_written back) (names_of s.now)
+        (value_of_text (moves_written back) (names_of s.now) levels) (piece text.now)) }
 {
     match read_piece(text) {
         Piece::Empty => Ok(Path::new(alloc, s.atlas.base())),
@@ -68,7 +69,7 @@ fn path_of_piece(alloc: Global, s: &Surface, levels: u32, text: &[u8]) -> Result
 fn path_of_name(alloc: Global, s: &Surface, named: Option<Named<'_>>) -> Result<Path, Memory>
     requires { IfSome named (λ n. IsLoop s.now.atlas n.path.now) }
     ensures closed { IfOk result (IsLoop s.now.atlas) }
-    ensures moves { IfOk result (λ p. p.moves ≡ named_if moves_written (moves_found named.entry)) }
+    ensures moves { IfOk result (λ p. p.moves ≡ named_if (moves_written back) (moves_found named.entry)) }
 {
     match named {
         Some(
@@ -86,7 +87,7 @@ fn path_of_name(alloc: Global, s: &Surface, named: Option<Named<'_>>) -> Result<
 fn taken(alloc: Global, s: &Surface, path: &Path, text: &[u8]) -> Result<Path, Memory>
     requires { IsLoop s.now.atlas path.now }
     ensures closed { IfOk result (IsLoop s.now.atlas) }
-    ensures moves { IfOk result (λ p. p.moves ≡ taken_if moves_written path.now.moves (power
+    ensures moves { IfOk result (λ p. p.moves ≡ taken_if (moves_written back) path.now.moves (power
         text.now)) }
 {
     match read_power(text) {
@@ -98,7 +99,7 @@ fn taken(alloc: Global, s: &Surface, path: &Path, text: &[u8]) -> Result<Path, M
 fn times(alloc: Global, s: &Surface, path: &Path, power: Power) -> Result<Path, Memory>
     requires { IsLoop s.now.atlas path.now }
     ensures closed { IfOk result (IsLoop s.now.atlas) }
-    ensures moves { IfOk result (λ p. p.moves ≡ moves_written.taken power path.now.moves) }
+    ensures moves { IfOk result (λ p. p.moves ≡ (moves_written back).taken power path.now.moves) }
 {
     if power.backwards {
         let back = path.inverse(alloc, &s.atlas)?;

@@ -1,6 +1,7 @@
 //! Powers of the parts of a word.
 ghost use Rattle.std.specs.Prelude.{◌≡◌, ◌<◌, ◌-◌, ◌&&◌};
-ghost use Rattle.surface_lib.specs.Powers.{is_digit, number_of, exponent, with_times, signed};
+ghost use Rattle.surface_lib.specs.Spelling.{is_digit};
+ghost use Rattle.surface_lib.specs.Powers.{number_of, exponent, with_times, signed};
 ghost use Rattle.surface_lib.specs.Powers.{power};
 
 /// How often a part of a word is taken, from 1 to 4,096 times, and whether it is taken backwards.

@@ -1,8 +1,13 @@
 //! Surfaces with named generators.
-ghost use Rattle.std.specs.Prelude.{◌≡◌, ◌<◌, ◌^◌, length, true, OnOk};
-ghost use Rattle.surface_lib.specs.Surfaces.{is_generator_name, IsSurface, IsLoop};
+ghost use Rattle.std.specs.Prelude.{◌≡◌, ◌<◌, ◌^◌, [], ◌∷◌, ◌++◌, length, true, false};
+ghost use Rattle.std.specs.Prelude.{IfOk, OnOk};
+ghost use Rattle.tri_atlas.specs.Paths.{moves_of};
+ghost use Rattle.surface_lib.specs.Described.{described};
+ghost use Rattle.surface_lib.specs.GeneratorFiles.{is_taken};
+ghost use Rattle.surface_lib.specs.Spelling.{is_generator_name};
+ghost use Rattle.surface_lib.specs.Surfaces.{IsSurface, IsLoop};
 
-use ideal_tri::Memory;
+use ideal_tri::{Memory, Tri};
 use indexmap::IndexMap;
 use std::alloc::Global;
 use tri_atlas::{Atlas, Path};
@@ -22,6 +27,19 @@ pub struct Surface {
 }
 
 impl Surface {
+    /// The surface with this name and base, and no generators.
+    pub(crate) fn new(alloc: Global, name: &str, base: Tri) -> Result<Surface, Memory>
+        ensures surface { IfOk result IsSurface }
+        ensures holds { IfOk result (λ s.
+            described s ≡ record { name = name.now; triangles = base; generators = [] }) }
+    {
+        Ok(Surface {
+            name: String::from_str(alloc, name)?,
+            atlas: Atlas::new(alloc, base)?,
+            generators: IndexMap::new(alloc),
+        })
+    }
+
     /// Puts a generator behind the others; where one has this name, the path takes the place of its
     /// path.
     pub(crate) fn insert(&mut self, alloc: Global, name: &str, path: Path) -> Result<(), Memory>
@@ -31,6 +49,10 @@ impl Surface {
         requires short { length path.moves < 2 ^ 31 }
         ensures surface { OnOk result (IsSurface self.new) }
         ensures atlas { OnOk result (self.new.atlas ≡ self.old.atlas) }
+        ensures name { OnOk result (self.new.name ≡ self.old.name) }
+        ensures behind { OnOk result (is_taken (described self.old).generators name.now ≡ false
+            → (described self.new).generators ≡ (described self.old).generators
+            ++ record { spelt = name.now; moves = moves_of self.old.atlas path } ∷ []) }
     {
         let name = String::from_str(alloc, name)?;
         self.generators.insert(name, path)?;

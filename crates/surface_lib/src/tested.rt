@@ -3,7 +3,7 @@ ghost use Rattle.std.specs.Prelude.{◌≡◌, ◌+◌, ◌<◌, ◌≤◌, ◌^
 ghost use Rattle.surface_lib.specs.Pieces.{piece};
 ghost use Rattle.surface_lib.specs.Powers.{power};
 ghost use Rattle.surface_lib.specs.Words.{test_power, test_piece, test_text};
-ghost use Rattle.surface_lib.specs.Surfaces.{generators_of, IsSurface};
+ghost use Rattle.surface_lib.specs.Surfaces.{names_of, IsSurface};
 
 use crate::error::WordError;
 use crate::names::generator_named;
@@ -22,7 +22,7 @@ pub(crate) fn test_text(
 ) -> Result<u64, WordError>
     requires surface { IsSurface s.now }
     requires room { number + length text.now + 1 < 2 ^ 64 }
-    ensures tested { result ≡ test_text (generators_of s.now) levels number text.now }
+    ensures tested { result ≡ test_text (names_of s.now) levels number text.now }
     ensures next { IfOk result (λ n. n ≤ number + length text.now + 1) }
 {
     if levels == 0 {
@@ -43,8 +43,8 @@ pub(crate) fn test_text(
 fn test_piece(s: &Surface, levels: u32, number: u64, text: &[u8]) -> Result<u64, WordError>
     requires surface { IsSurface s.now }
     requires room { number + length text.now + 1 < 2 ^ 64 }
-    ensures tested { result ≡ test_piece (generators_of s.now)
-        (test_text (generators_of s.now) levels) number (piece text.now) }
+    ensures tested { result ≡ test_piece (names_of s.now)
+        (test_text (names_of s.now) levels) number (piece text.now) }
     ensures next { IfOk result (λ n. n ≤ number + length text.now + 1) }
 {
     match read_piece(text) {

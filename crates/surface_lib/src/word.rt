@@ -1,8 +1,11 @@
 //! Reading a word.
 ghost use Rattle.std.specs.Prelude.{◌≡◌, ◌≤◌, ◌<◌, ◌^◌, ◌⊎◌, None, Ok, Err, IfOk, IfErr};
+ghost use Rattle.tri_atlas.specs.Arena.{back};
+ghost use Rattle.tri_atlas.specs.Paths.{moves_of};
 ghost use Rattle.surface_lib.specs.Words.{moves_written, value_of_text};
-ghost use Rattle.surface_lib.specs.Refusals.{reading, tested, levels};
-ghost use Rattle.surface_lib.specs.Surfaces.{generators_of, IsSurface, IsLoop};
+ghost use Rattle.surface_lib.specs.Refusals.{handles_kind, moves_kind, reading, tested, levels};
+ghost use Rattle.surface_lib.specs.Surfaces.{generators_of, names_of, IsSurface, IsLoop};
+ghost use Rattle.surface_lib.specs.Described.{described};
 ghost use Rattle.surface_lib.specs.inside.Verdicts.{IsVerdict, test_sizes};
 
 use crate::counts::{Counts, count_text};
@@ -12,7 +15,7 @@ use crate::piece::{bad_bracket, dots};
 use crate::surface::Surface;
 use crate::tested::test_text;
 use std::alloc::Global;
-use tri_atlas::Path;
+use tri_atlas::{Path, atlas_laws};
 
 /// The most pieces of a text, and the most names of a word with all powers written out.
 const PART_LIMIT: usize = 4_096;
@@ -37,11 +40,15 @@ const LEVELS: u32 = 9;
 pub fn read_word(alloc: Global, s: &Surface, word: &str) -> Result<Path, WordError>
     requires { IsSurface s.now }
     ensures closed { IfOk result (IsLoop s.now.atlas) }
-    ensures accepted { IfOk result
-        (λ p. reading s.now.atlas (generators_of s.now) word.now ≡ Ok p.moves) }
+    ensures path { IfOk result
+        (λ p. reading (handles_kind s.now.atlas) (generators_of s.now) word.now ≡ Ok p.moves) }
+    ensures accepted { IfOk result (λ p. reading moves_kind (described s.now).generators word.now
+        ≡ Ok (moves_of s.now.atlas p)) }
     ensures refused { IfErr result (λ e. (e ≡ WordError.Memory)
-        ⊎ (reading s.now.atlas (generators_of s.now) word.now ≡ Err e)) }
+        ⊎ (reading moves_kind (described s.now).generators word.now ≡ Err e)) }
 {
+    atlas_laws();
+    let _base = s.atlas.base();
     let text = word.as_bytes();
     test_word(s, text)?;
     let path = path_of_text(alloc, s, LEVELS, text)?;
@@ -50,8 +57,8 @@ pub fn read_word(alloc: Global, s: &Surface, word: &str) -> Result<Path, WordErr
 
 fn test_word(s: &Surface, text: &[u8]) -> Result<(), WordError>
     requires { IsSurface s.now }
-    ensures { IsVerdict result (value_of_text moves_written (generators_of s.now) levels text.now)
-        (reading s.now.atlas (generators_of s.now) text.now) }
+    ensures { IsVerdict result (value_of_text (moves_written back) (names_of s.now) levels text.now)
+        (reading (handles_kind s.now.atlas) (generators_of s.now) text.now) }
 {
     match bad_bracket(text) {
         Some(place) => Err(WordError::BadGroup(place)),
@@ -62,8 +69,8 @@ fn test_word(s: &Surface, text: &[u8]) -> Result<(), WordError>
 /// The tests of a text whose brackets are matched.
 fn test_pieces(s: &Surface, text: &[u8]) -> Result<(), WordError>
     requires { IsSurface s.now }
-    ensures { IsVerdict result (value_of_text moves_written (generators_of s.now) levels text.now)
-        (tested s.now.atlas (generators_of s.now) text.now None) }
+    ensures { IsVerdict result (value_of_text (moves_written back) (names_of s.now) levels text.now)
+        (tested (handles_kind s.now.atlas) (names_of s.now) text.now None) }
 {
     let parts = dots(text) + 1;
     if parts > PART_LIMIT {

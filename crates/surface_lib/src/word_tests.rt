@@ -4,11 +4,15 @@ ghost use Rattle.tri_atlas.specs.Paths.{MovePath};
 ghost use Rattle.surface_lib.specs.Surfaces.{IsLoop, IsSurface};
 
 use super::*;
+use crate::product::product_path;
+use crate::refused::Refused;
 use flip_move::flip;
 use ideal_tri::{Memory, Tri};
 use indexmap::IndexMap;
 use relabel::{Relabelling, push};
-use std::alloc::Global;
+use serde_json::Value;
+use std::alloc::{AllocGlobal, Global};
+use std::process::Abort;
 use std::test::Fail;
 use tri_atlas::{Atlas, Path, atlas_laws};
 
@@ -49,13 +53,15 @@ fn moves_of(alloc: Global, s: &Surface, word: &str) -> Result<usize, WordError>
     Ok(path.moves().len())
 }
 
-#[test]
-fn words(rt: HostRuntime) -> Result<(), Fail> {
+/// The torus with the generators a and b.
+fn torus(rt: &(impl Abort + AllocGlobal)) -> Result<Surface, Fail>
+    ensures { IfOk result IsSurface }
+{
     let alloc = rt.alloc();
     let torus = Tri::from_triples(&[[0, 1, 2], [-1, -2, -3]])?;
     let mut atlas = Atlas::new(alloc, torus)?;
-    let a = flip_and_relabel(alloc, &mut atlas, &[2, 1, -1])?.expect(&rt, "a path");
-    let b = flip_and_relabel(alloc, &mut atlas, &[-2, -1, 2])?.expect(&rt, "a path");
+    let a = flip_and_relabel(alloc, &mut atlas, &[2, 1, -1])?.expect(rt, "a path");
+    let b = flip_and_relabel(alloc, &mut atlas, &[-2, -1, 2])?.expect(rt, "a path");
     let name = String::from_str(alloc, "S_1_1")?;
     let mut s = Surface {
         name,
@@ -64,6 +70,13 @@ fn words(rt: HostRuntime) -> Result<(), Fail> {
     };
     s.insert(alloc, "a", a)?;
     s.insert(alloc, "b", b)?;
+    Ok(s)
+}
+
+#[test]
+fn words(rt: HostRuntime) -> Result<(), Fail> {
+    let alloc = rt.alloc();
+    let s = torus(&rt)?;
     for (word, moves) in [
         ("", Ok(0)),
         ("a.b", Ok(4)),
@@ -100,5 +113,35 @@ fn words(rt: HostRuntime) -> Result<(), Fail> {
         Err(WordError::WordTooLong(4097))
     );
     assert_eq!(rt; moves_of(alloc, &s, &open), Err(WordError::BadGroup(8)));
+    Ok(())
+}
+
+/// How many moves the path of a product has.
+fn moves_of_product(alloc: Global, s: &Surface, entry: &Value) -> Result<usize, Refused>
+    requires { IsSurface s.now }
+{
+    let path = product_path(alloc, s, entry)?;
+    Ok(path.moves().len())
+}
+
+#[test]
+fn products(rt: HostRuntime) -> Result<(), Fail> {
+    let alloc = rt.alloc();
+    let s = torus(&rt)?;
+    for (entry, moves) in [
+        ("{\"word\": \"(a.B)^3\"}", Ok(12)),
+        ("{\"word\": \"\"}", Ok(0)),
+        (
+            "{\"word\": [\"a\"]}",
+            Err(Refused::Fault(GeneratorFault::BadShape(Key::Word))),
+        ),
+        (
+            "{\"word\": \"a.c\"}",
+            Err(Refused::Fault(GeneratorFault::Word(WordError::UnknownName(1)))),
+        ),
+    ] {
+        let value = Value::from_str(alloc, entry)?;
+        assert_eq!(rt; moves_of_product(alloc, &s, &value), moves, "{entry}");
+    }
     Ok(())
 }

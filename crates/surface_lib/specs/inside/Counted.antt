@@ -2,7 +2,7 @@
 use Rattle.std.specs.Prelude.{ℕ, ◌+◌, ◌*◌, ◌-◌, ◌^◌, min, List, length}
 use Rattle.tri_atlas.specs.Arena.{Arena, MoveHandle}
 use Rattle.surface_lib.specs.Words.{Target}
-use Rattle.surface_lib.specs.Refusals.{flips_among}
+use Rattle.surface_lib.specs.Refusals.{handles_kind, flips_among}
 use Rattle.surface_lib.specs.declared.counts.Counts.{Counts}
 use Rattle.surface_lib.specs.declared.power.Power.{Power}
 
@@ -30,9 +30,9 @@ times k a = record {
 abbrev pub of_name : Arena → List MoveHandle → Counts
 of_name arena moves = record {
   names = 1;
-  flips = capped (flips_among arena moves);
+  flips = capped (flips_among (handles_kind arena) moves);
   moves = capped (length moves);
 }
 
-abbrev pub counted : Arena → Target Counts
+abbrev pub counted : Arena → Target MoveHandle Counts
 counted arena = record { none = no_counts; joined = both; taken = times; named = of_name arena }

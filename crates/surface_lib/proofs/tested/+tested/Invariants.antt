@@ -1,7 +1,7 @@
 use Rattle.std.proofs.Common.{◌≡◌, ◌+◌, ◌*◌, ◌≤◌, length}
 use Rattle.std.specs.Option.{option_map}
 use Rattle.surface_lib.specs.Words.{test_pieces, test_text}
-use Rattle.surface_lib.specs.Surfaces.{generators_of}
+use Rattle.surface_lib.specs.Surfaces.{names_of}
 use Rattle.surface_lib.specs.inside.Cut.{parts_left, bytes_left}
 use Rattle.surface_lib.proofs.tested.+tested.Given as goal
 
@@ -13,9 +13,9 @@ decreases-test_text l = 2 * l.levels
 
 abbrev pub invariant-test_text-loop-rest : goal.invariant-test_text-loop-rest
 invariant-test_text-loop-rest l = record {
-  left : test_pieces (generators_of l.s) (test_text (generators_of l.s) l.inner) l.next (parts_left (option_map (λ r.
+  left : test_pieces (names_of l.s) (test_text (names_of l.s) l.inner) l.next (parts_left (option_map (λ r.
       r.now) l.rest))
-      ≡ test_text (generators_of l.s) l.levels l.number l.text;
+      ≡ test_text (names_of l.s) l.levels l.number l.text;
   room : l.next + bytes_left (option_map (λ r. r.now) l.rest) ≤ l.number + length l.text + 1;
 }
 

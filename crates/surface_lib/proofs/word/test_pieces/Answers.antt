@@ -1,6 +1,6 @@
 use Rattle.std.proofs.Common.{◌≤◌, ◌<◌, ◌+◌, ◌^◌, sym, subst, ℕ, arith}
 use Rattle.surface_lib.specs.Pieces.{dots}
-use Rattle.surface_lib.specs.Surfaces.{generators_of}
+use Rattle.surface_lib.specs.Surfaces.{names_of}
 use Rattle.surface_lib.proofs.Sizes.{counts_of_word, verdict}
 use Rattle.surface_lib.proofs.word.test_pieces.Goals as goal
 
@@ -40,6 +40,6 @@ returns c =
     let are = counts_of_word c.args.s.now.atlas c.args.s.now.generators.entries c.requires c.args.text.now
     c.count_text.result few
     c.count_text.ensures in
-    verdict c.args.s.now.atlas (generators_of c.args.s.now) c.args.text.now c.count_text.result c.test_sizes.result
+    verdict c.args.s.now.atlas (names_of c.args.s.now) c.args.text.now c.count_text.result c.test_sizes.result
     c.in_ok-test_text.field-0
     are few c.in_ok-test_text.ensures.tested c.test_sizes.ensures

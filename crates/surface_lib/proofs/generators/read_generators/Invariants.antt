@@ -1,0 +1,5 @@
+use Rattle.surface_lib.proofs.ManyRead.{AreRead}
+use Rattle.surface_lib.proofs.generators.read_generators.Given as goal
+
+abbrev pub invariant-loop-index : goal.invariant-loop-index
+invariant-loop-index l = AreRead l.version l.fn.s l.s l.entries l.index
