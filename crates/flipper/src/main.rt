@@ -13,7 +13,7 @@ ghost use Rattle.std.specs.Process.{exit_status};
 ghost use Rattle.std.specs.Vec.Iter.{into_iter_items};
 ghost use Rattle.flip_io.specs.Files.{Files as FilesOf};
 ghost use Rattle.flipper_cli.specs.Answers.{number_of};
-ghost use Rattle.flipper_cli.specs.Command.{command};
+ghost use Rattle.flipper_cli.specs.Commands.{command};
 ghost use Rattle.flipper_cli.specs.Headline.{IsHeadline};
 
 use flip_io::{DirShelf, StdSink};

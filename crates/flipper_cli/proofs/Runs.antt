@@ -11,10 +11,10 @@ use Rattle.flipper_cli.specs.Run.{IsAnswer, IsQuiet, IsReported, IsWritten, Read
 use Rattle.flipper_cli.specs.Run.{shown}
 use Rattle.flipper_cli.specs.declared.answers.Status.{Status}
 use Rattle.flipper_cli.specs.declared.answers.Status.TheVariants.{Done, ShelfFault, SinkFault, Memory as NoMemory}
-use Rattle.flipper_cli.specs.declared.answers.Refusal.{Refusal}
-use Rattle.flipper_cli.specs.declared.answers.Refusal.TheVariants.{Usage, Absent, Failed, SurfaceNotBuilt}
-use Rattle.flipper_cli.specs.declared.answers.Refusal.TheVariants.{SurfaceRefused, WordNotBuilt, WordRefused}
-use Rattle.flipper_cli.specs.declared.answers.Refusal.TheVariants.{CoordinatesRefused, Memory}
+use Rattle.flipper_cli.specs.declared.refusal.Refusal.{Refusal}
+use Rattle.flipper_cli.specs.declared.refusal.Refusal.TheVariants.{Usage, Absent, Failed, UnknownBuiltin}
+use Rattle.flipper_cli.specs.declared.refusal.Refusal.TheVariants.{Surface, Word}
+use Rattle.flipper_cli.specs.declared.refusal.Refusal.TheVariants.{Coordinates, Overflow, Memory}
 
 -- ---- refusals by their status
 
@@ -22,22 +22,22 @@ not_done : (r : Refusal) → status_of r ≡ Done → ⊥
 not_done Usage h = cc
 not_done Absent h = cc
 not_done Failed h = cc
-not_done SurfaceNotBuilt h = cc
-not_done SurfaceRefused h = cc
-not_done WordNotBuilt h = cc
-not_done WordRefused h = cc
-not_done CoordinatesRefused h = cc
+not_done UnknownBuiltin h = cc
+not_done (Surface e) h = cc
+not_done (Word e) h = cc
+not_done (Coordinates e) h = cc
+not_done (Overflow o) h = cc
 not_done Memory h = cc
 
 failed_by_status : (r : Refusal) → status_of r ≡ ShelfFault ReadFailed → r ≡ Failed
 failed_by_status Failed h = refl
 failed_by_status Usage h = cc
 failed_by_status Absent h = cc
-failed_by_status SurfaceNotBuilt h = cc
-failed_by_status SurfaceRefused h = cc
-failed_by_status WordNotBuilt h = cc
-failed_by_status WordRefused h = cc
-failed_by_status CoordinatesRefused h = cc
+failed_by_status UnknownBuiltin h = cc
+failed_by_status (Surface e) h = cc
+failed_by_status (Word e) h = cc
+failed_by_status (Coordinates e) h = cc
+failed_by_status (Overflow o) h = cc
 failed_by_status Memory h = cc
 
 -- a failed read is shown for itself alone

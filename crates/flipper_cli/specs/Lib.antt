@@ -4,13 +4,14 @@ pub mod Report
 pub mod Run
 -- what the words, the files and the answers are
 pub mod Answers
-pub mod Command
-pub mod Json
+pub mod Commands
+pub mod Coordinates
+pub mod ErrorTexts
 pub mod Limits
 pub mod Line
-pub mod Names
-pub mod Surfaces
-pub mod Vectors
+pub mod RefusalCauses
+pub mod RefusalLines
+pub mod Show
 -- worked drawings
 pub mod WorkedDrawings
 -- what serves the code alone

@@ -1,97 +1,93 @@
 -- The report of a call: which status, which bytes for the output and which for the error stream,
 -- for its words over the files of the shelf.
-use Rattle.std.specs.Prelude.{◌≡◌, ◌⊎◌, ◌≤◌, ℕ, ℤ, List, [], ◌∷◌, length, Option, Some, None}
-use Rattle.std.specs.Prelude.{true, false, IsUtf8}
-use Rattle.std.specs.List.{find}
-use Rattle.std.specs.Option.{option_map}
-use Rattle.std.specs.Str.{bytes_eq}
-use Rattle.serde_json.specs.Data.{Data}
-use Rattle.serde_json.specs.Read.{read}
-use Rattle.flip_io.specs.Files.{Files}
+use Rattle.std.specs.Prelude.{◌≡◌, ◌⊎◌, ℕ, List, Option, Some, None, Result, Ok, Err}
+use Rattle.std.specs.Prelude.{MatchResult}
 use Rattle.ideal_tri.specs.Vectors.{IsMulticurve}
+use Rattle.flip_io.specs.Files.{Files}
 use Rattle.tri_atlas.specs.Maps.{IsImageVector, path_map}
-use Rattle.tri_atlas.specs.Moves.{Move, relabel}
+use Rattle.tri_atlas.specs.MovedVectors.{OverflowsAt}
+use Rattle.tri_atlas.specs.Moves.{Move}
+use Rattle.edge_coords.specs.Coordinates.{AreSmall}
+use Rattle.edge_coords.specs.MovedCoordinates.{IsOverflowAlong}
+use Rattle.edge_coords.specs.Refusals.{IsRefusedFor}
+use Rattle.edge_coords.specs.declared.coords.CoordsError.{CoordsError}
+use Rattle.edge_coords.specs.declared.coords.TheConstants.{COORDINATE_LIMIT}
+use Rattle.edge_coords.specs.declared.moves.OverflowAt.{OverflowAt}
+use Rattle.surface_lib.specs.BuiltinSurfaces.{builtin_named}
+use Rattle.surface_lib.specs.Described.{Described}
+use Rattle.surface_lib.specs.Refusals.{moves_kind, reading}
+use Rattle.surface_lib.specs.SurfaceFiles.{IsReadingOf}
+use Rattle.surface_lib.specs.declared.error.WordError.{WordError}
+use Rattle.surface_lib.specs.declared.surface_error.SurfaceError.{SurfaceError}
 use Rattle.flipper_cli.specs.Answers.{Report, printed, refused}
-use Rattle.flipper_cli.specs.Command.{Command, image}
-use Rattle.flipper_cli.specs.Limits.{surface_limit}
+use Rattle.flipper_cli.specs.Commands.{Command, Source, show, image, file, builtin, source_in}
+use Rattle.flipper_cli.specs.Coordinates.{numbers_in}
 use Rattle.flipper_cli.specs.Line.{line_of}
-use Rattle.flipper_cli.specs.Names.{is_generator_name}
-use Rattle.flipper_cli.specs.Surfaces.{Surface, Generator, surface_in, is_unbuilt, IsSound}
-use Rattle.flipper_cli.specs.Vectors.{coordinates_in}
-use Rattle.flipper_cli.specs.declared.answers.Refusal.TheVariants.{Usage, Absent, SurfaceNotBuilt}
-use Rattle.flipper_cli.specs.declared.answers.Refusal.TheVariants.{SurfaceRefused, WordNotBuilt}
-use Rattle.flipper_cli.specs.declared.answers.Refusal.TheVariants.{WordRefused, CoordinatesRefused}
+use Rattle.flipper_cli.specs.RefusalCauses.{for_numbers}
+use Rattle.flipper_cli.specs.Show.{show_lines}
+use Rattle.flipper_cli.specs.declared.coordinates.NumbersError.{NumbersError}
+use Rattle.flipper_cli.specs.declared.refusal.CoordinatesError.TheVariants.{Coords}
+use Rattle.flipper_cli.specs.declared.refusal.Refusal.{Refusal}
+use Rattle.flipper_cli.specs.declared.refusal.Refusal.TheVariants.{Usage, Absent, UnknownBuiltin}
+use Rattle.flipper_cli.specs.declared.refusal.Refusal.TheVariants.{Surface, Word, Coordinates}
+use Rattle.flipper_cli.specs.declared.refusal.Refusal.TheVariants.{Overflow}
 
 -- ---- the surface
 
--- the file is JSON of this tree, and not too long
-pub record IsTree (file : List ℕ) (d : Data) : Type 0 where
-  pub short : length file ≤ surface_limit
-  pub utf8 : IsUtf8 file
-  pub parsed : read file ≡ Some d
+-- a file's reading, as the program answers it
+abbrev pub as_found : Result Described SurfaceError → Result Described Refusal
+as_found (Ok d) = Ok d
+as_found (Err e) = Err (Surface e)
 
--- the surface that the file holds
-pub record IsSurface (file : List ℕ) (s : Surface) : Type 0 where
-  pub tree : Data
-  pub is_tree : IsTree file tree
-  pub built : is_unbuilt tree ≡ false
-  pub shape : surface_in tree ≡ Some s
-  pub sound : IsSound s
+abbrev pub IsFoundIn : Option (List ℕ) → Result Described Refusal → Type 0
+IsFoundIn None found = found ≡ Err Absent
+IsFoundIn (Some bytes) found =
+    (read : Result Described SurfaceError) × IsReadingOf bytes read × (found ≡ as_found read)
 
--- a generator of the file is a twist or has flips
-pub record IsNotBuilt (file : List ℕ) : Type 0 where
-  pub tree : Data
-  pub is_tree : IsTree file tree
-  pub unbuilt : is_unbuilt tree ≡ true
+abbrev pub as_builtin : Option Described → Result Described Refusal
+as_builtin None = Err UnknownBuiltin
+as_builtin (Some d) = Ok d
 
--- the file holds no surface, and not for want of twists and flips
-pub record IsNoSurface (file : List ℕ) : Type 0 where
-  pub built : ¬ IsNotBuilt file
-  pub none : (s : Surface) → ¬ IsSurface file s
+-- the surface that FILE stands for over these files, or why there is none
+abbrev pub IsFound : Files → Source → Result Described Refusal → Type 0
+IsFound files (file name) found = IsFoundIn (files name) found
+IsFound files (builtin name) found = found ≡ as_builtin (builtin_named name)
 
--- ---- the word
+-- ---- `image`, from the last step back
 
--- the images of the first generator of this name
-abbrev pub images_of : List ℕ → List Generator → Option (List ℤ)
-images_of name generators =
-    option_map (λ g. g.images) (find (λ g. bytes_eq g.name name) generators)
+-- the vector, or the overflow, of a multicurve along the moves
+abbrev pub IsImageReport : Described → List Move → List ℕ → Report → Type 0
+IsImageReport d moves w r =
+    ((o : OverflowAt) × IsOverflowAlong d.triangles w moves o × (r ≡ refused (Overflow o)))
+    ⊎ (((k : ℕ) → ¬ OverflowsAt COORDINATE_LIMIT d.triangles w moves k)
+    × ((v : List ℕ) × IsImageVector d.triangles w (path_map moves) v × (r ≡ printed (line_of v))))
 
--- the path of a word, which is the name of a generator: one relabelling
-abbrev pub path_of : List ℕ → List Generator → Option (List Move)
-path_of word generators = option_map (λ images. relabel images ∷ []) (images_of word generators)
+-- the numbers are no coordinates, or those of a multicurve with numbers below 2^126
+abbrev pub IsVectorReport : Described → List Move → List ℕ → Report → Type 0
+IsVectorReport d moves w r =
+    ((e : CoordsError) × IsRefusedFor d.triangles w e × (r ≡ refused (Coordinates (Coords e))))
+    ⊎ (IsMulticurve d.triangles w × AreSmall w × IsImageReport d moves w r)
 
--- ---- the report of `image`, from the last step back
+abbrev pub IsNumbersReport : Described → List Move → Result (List ℕ) NumbersError → Report → Type 0
+IsNumbersReport d moves numbers r =
+    MatchResult numbers (λ w. IsVectorReport d moves w r) (λ e. r ≡ refused (for_numbers e))
 
--- the numbers are a multicurve, whose image under the map of the moves is printed; or they are
--- refused
-abbrev pub IsVectorReport : Surface → List Move → Option (List ℕ) → Report → Type 0
-IsVectorReport s moves None r = r ≡ refused CoordinatesRefused
-IsVectorReport s moves (Some w) r =
-    ((v : List ℕ) × IsImageVector s.triangles w (path_map moves) v × (r ≡ printed (line_of v)))
-    ⊎ ((¬ IsMulticurve s.triangles w) × (r ≡ refused CoordinatesRefused))
-
-abbrev pub IsWordReport : Surface → Option (List Move) → List ℕ → Report → Type 0
-IsWordReport s None coordinates r = r ≡ refused WordRefused
-IsWordReport s (Some moves) coordinates r =
-    IsVectorReport s moves (coordinates_in coordinates) r
-
-abbrev pub IsSurfaceReport : Surface → List ℕ → List ℕ → Report → Type 0
-IsSurfaceReport s word coordinates r =
-    ((is_generator_name word ≡ true)
-    × IsWordReport s (path_of word s.generators) coordinates r)
-    ⊎ ((is_generator_name word ≡ false) × (r ≡ refused WordNotBuilt))
-
-abbrev pub IsFileReport : Option (List ℕ) → List ℕ → List ℕ → Report → Type 0
-IsFileReport None word coordinates r = r ≡ refused Absent
-IsFileReport (Some file) word coordinates r =
-    ((s : Surface) × IsSurface file s × IsSurfaceReport s word coordinates r)
-    ⊎ ((IsNotBuilt file × (r ≡ refused SurfaceNotBuilt))
-    ⊎ (IsNoSurface file × (r ≡ refused SurfaceRefused)))
+abbrev pub IsWordReport : Described → Result (List Move) WordError → List ℕ → Report → Type 0
+IsWordReport d word coordinates r =
+    MatchResult word (λ moves. IsNumbersReport d moves (numbers_in coordinates) r)
+    (λ e. r ≡ refused (Word e))
 
 -- ---- the report of a call
+
+-- the report of a command about this surface
+abbrev pub IsSurfaceReport : Command → Described → Report → Type 0
+IsSurfaceReport (show source) d r = r ≡ printed (show_lines d)
+IsSurfaceReport (image source word coordinates) d r =
+    IsWordReport d (reading moves_kind d.generators word) coordinates r
 
 -- the report of these words, read as a command, over these files
 abbrev pub IsReport : Option Command → Files → Report → Type 0
 IsReport None files r = r ≡ refused Usage
-IsReport (Some (image file word coordinates)) files r =
-    IsFileReport (files file) word coordinates r
+IsReport (Some asked) files r =
+    (found : Result Described Refusal) × IsFound files (source_in asked) found
+    × MatchResult found (λ d. IsSurfaceReport asked d r) (λ e. r ≡ refused e)

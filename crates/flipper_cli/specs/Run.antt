@@ -6,13 +6,13 @@ use Rattle.flip_io.specs.Counts.{Rose, raised}
 use Rattle.flip_io.specs.Files.{Files}
 use Rattle.flip_io.specs.Taken.{Took, TookPrefix}
 use Rattle.flipper_cli.specs.Answers.{Report, printed, refused}
-use Rattle.flipper_cli.specs.Command.{command, IsReadBy}
+use Rattle.flipper_cli.specs.Commands.{command, IsReadBy}
 use Rattle.flipper_cli.specs.Headline.{IsHeadline}
 use Rattle.flipper_cli.specs.Report.{IsReport}
 use Rattle.flipper_cli.specs.declared.answers.Status.{Status}
 use Rattle.flipper_cli.specs.declared.answers.Status.TheVariants.{ShelfFault, SinkFault}
-use Rattle.flipper_cli.specs.declared.answers.Refusal.{Refusal}
-use Rattle.flipper_cli.specs.declared.answers.Refusal.TheVariants.{Failed, Memory}
+use Rattle.flipper_cli.specs.declared.refusal.Refusal.{Refusal}
+use Rattle.flipper_cli.specs.declared.refusal.Refusal.TheVariants.{Failed, Memory}
 
 -- ---- the answer
 

@@ -1,10 +1,9 @@
-//! What the program answers: its status, and why nothing was printed.
+//! How a run ends.
 ghost use Rattle.std.specs.Prelude.{◌≡◌};
-ghost use Rattle.flipper_cli.specs.Answers.{status_of, line_for, number_of};
+ghost use Rattle.flipper_cli.specs.Answers.{status_of, number_of};
 
-use crate::surface::SurfaceRefusal;
-use flip_io::{ReadError, ShelfFault};
-use ideal_tri::Memory;
+use crate::refusal::Refusal;
+use flip_io::ShelfFault;
 
 /// How a run ends.
 #[derive(Clone, Copy, Debug, PartialEq, Eq)]
@@ -21,10 +20,12 @@ pub enum Status {
     SinkFault,
     /// No memory was found.
     Memory,
+    /// A flip of the word gives a coordinate of 2^126 or more.
+    Overflow,
 }
 
 impl Status {
-    /// The exit status, from 0 to 5.
+    /// The exit status, from 0 to 6.
     pub fn number(self) -> u8
         ensures { result ≡ number_of self }
     {
@@ -35,73 +36,7 @@ impl Status {
             Status::ShelfFault(_) => 3,
             Status::SinkFault => 4,
             Status::Memory => 5,
-        }
-    }
-}
-
-/// Why nothing is printed on the output, in the order of the tests; a failed read and want of
-/// memory may come between.
-#[derive(Clone, Copy, Debug, PartialEq, Eq)]
-pub enum Refusal {
-    /// The words of the command line fit no command.
-    Usage,
-    /// There is no surface file of this name.
-    Absent,
-    /// A read of the surface file failed.
-    Failed,
-    /// A generator of the surface file is a twist or has flips: these are not built yet.
-    SurfaceNotBuilt,
-    /// The file is too long, or holds no surface.
-    SurfaceRefused,
-    /// The word is not the name of one generator: other words are not built yet.
-    WordNotBuilt,
-    /// The surface has no generator of this name.
-    WordRefused,
-    /// The coordinates are not those of a multicurve.
-    CoordinatesRefused,
-    /// No memory was found.
-    Memory,
-}
-
-impl From<Memory> for Refusal {
-    ghost use Rattle.std.specs.Prelude.{◌≡◌};
-    ghost use Rattle.flipper_cli.specs.declared.answers.Refusal.TheVariants.{Memory};
-
-    ghost from_gives = { λ _ refusal. refusal ≡ Memory };
-
-    fn from(_: Memory) -> Refusal {
-        Refusal::Memory
-    }
-}
-
-impl From<ReadError> for Refusal {
-    ghost use Rattle.std.specs.Prelude.{◌≡◌};
-    ghost use Rattle.flipper_cli.specs.inside.Refusals.{for_read};
-
-    ghost from_gives = { λ error refusal. refusal ≡ for_read error };
-
-    fn from(error: ReadError) -> Refusal {
-        match error {
-            ReadError::Absent => Refusal::Absent,
-            ReadError::Failed => Refusal::Failed,
-            ReadError::TooLong => Refusal::SurfaceRefused,
-            ReadError::Memory => Refusal::Memory,
-        }
-    }
-}
-
-impl From<SurfaceRefusal> for Refusal {
-    ghost use Rattle.std.specs.Prelude.{◌≡◌};
-    ghost use Rattle.flipper_cli.specs.inside.Refusals.{for_surface};
-
-    ghost from_gives = { λ error refusal. refusal ≡ for_surface error };
-
-    fn from(error: SurfaceRefusal) -> Refusal {
-        match error {
-            SurfaceRefusal::NotBuilt => Refusal::SurfaceNotBuilt,
-            SurfaceRefusal::NotSurface | SurfaceRefusal::Triangles(_) | SurfaceRefusal::Images(_) =>
-                Refusal::SurfaceRefused,
-            SurfaceRefusal::Memory => Refusal::Memory,
+            Status::Overflow => 6,
         }
     }
 }
@@ -115,29 +50,12 @@ impl Refusal {
             Refusal::Usage => Status::WordsRefused,
             Refusal::Absent => Status::ShelfFault(ShelfFault::Absent),
             Refusal::Failed => Status::ShelfFault(ShelfFault::Failed),
-            Refusal::SurfaceNotBuilt
-            | Refusal::SurfaceRefused
-            | Refusal::WordNotBuilt
-            | Refusal::WordRefused
-            | Refusal::CoordinatesRefused => Status::InputRefused,
+            Refusal::UnknownBuiltin
+            | Refusal::Surface(_)
+            | Refusal::Word(_)
+            | Refusal::Coordinates(_) => Status::InputRefused,
+            Refusal::Overflow(_) => Status::Overflow,
             Refusal::Memory => Status::Memory,
-        }
-    }
-
-    /// The line on the error stream.
-    pub(crate) fn line(self) -> &'static str
-        ensures { result.now ≡ line_for self }
-    {
-        match self {
-            Refusal::Usage => "error: usage\n",
-            Refusal::Absent => "error: shelf Absent\n",
-            Refusal::Failed => "error: shelf Failed\n",
-            Refusal::SurfaceNotBuilt => "error: surface NotBuilt\n",
-            Refusal::SurfaceRefused => "error: surface Refused\n",
-            Refusal::WordNotBuilt => "error: word NotBuilt\n",
-            Refusal::WordRefused => "error: word Refused\n",
-            Refusal::CoordinatesRefused => "error: coordinates Refused\n",
-            Refusal::Memory => "error: memory\n",
         }
     }
 }

@@ -1,107 +1,82 @@
-//! From the surface file, the word and the coordinates to what is printed.
-ghost use Rattle.std.specs.Prelude.{◌≡◌, ◌⊎◌, ◌≤◌, List, [], ◌∷◌, length, Some, Err, IfOk, IfErr};
+//! From the word and the coordinates to the image that is printed.
+ghost use Rattle.std.specs.Prelude.{◌≡◌, ◌⊎◌, ℕ, List, [], Err, IfOk, IfErr, string_bytes};
 ghost use Rattle.ideal_tri.specs.Drawings.{draw};
-ghost use Rattle.ideal_tri.specs.Relabellings.{IsRelabelling};
 ghost use Rattle.ideal_tri.specs.Strands.{IsDrawing};
-ghost use Rattle.ideal_tri.specs.Triangulations.{IsTriangulation};
-ghost use Rattle.ideal_tri.specs.Vectors.{IsMulticurve};
-ghost use Rattle.tri_atlas.specs.Moves.{Move, relabel};
-ghost use Rattle.flipper_cli.specs.Answers.{status_of};
-ghost use Rattle.flipper_cli.specs.Headline.{IsImage, IsImageLine};
-ghost use Rattle.flipper_cli.specs.Limits.{surface_limit};
-ghost use Rattle.flipper_cli.specs.Report.{IsFileReport, IsSurfaceReport, IsVectorReport};
-ghost use Rattle.flipper_cli.specs.Report.{path_of};
+ghost use Rattle.tri_atlas.specs.Maps.{IsImageVector, path_map};
+ghost use Rattle.tri_atlas.specs.Paths.{moves_of};
+ghost use Rattle.surface_lib.specs.Described.{described};
+ghost use Rattle.surface_lib.specs.Refusals.{moves_kind, reading};
+ghost use Rattle.surface_lib.specs.Surfaces.{IsSurface, IsLoop};
+ghost use Rattle.flipper_cli.specs.Headline.{IsImageLine};
+ghost use Rattle.flipper_cli.specs.Line.{line_of};
+ghost use Rattle.flipper_cli.specs.Report.{IsVectorReport, IsWordReport};
 ghost use Rattle.flipper_cli.specs.Run.{shown};
-ghost use Rattle.flipper_cli.specs.Surfaces.{IsSound};
-ghost use Rattle.flipper_cli.specs.Vectors.{coordinates_in};
-ghost use Rattle.flipper_cli.specs.inside.KeptSurface.{surface_of};
+ghost use Rattle.flipper_cli.specs.inside.AboutSurfaces.{IsAboutSurface};
 
-use crate::answers::{Refusal, Status};
+use crate::coordinates::numbers_in;
 use crate::line::line_of;
-use crate::names::is_generator_name;
-use crate::surface::{Surface, read_surface};
-use crate::vector::{coordinates_in, is_multicurve, moved};
-use ideal_tri::{Tri, drawing_laws, relabelling_laws};
-use relabel::Relabelling;
+use crate::refusal::Refusal;
+use edge_coords::Coords;
+use ideal_tri::{Memory, drawing_laws};
 use std::alloc::Global;
+use surface_lib::{Surface, read_word};
+use tri_atlas::{Path, atlas_laws};
 
-/// A multicurve has a drawing. It does nothing: the caller learns it.
-fn is_drawn(tri: &Tri, multicurve: &[u128])
-    requires triangulation { IsTriangulation tri.now }
-    requires multicurve { IsMulticurve tri.now multicurve.now }
-    ensures { IsDrawing tri.now multicurve.now (draw tri.now multicurve.now) }
-{
-    drawing_laws();
-}
+/// Room for the line of any vector: 48 numbers of at most 38 digits, each with a space behind it.
+const LINE_ROOM: usize = 48 * 39;
 
-/// The line of the image of a multicurve under a relabelling of the surface.
-fn image_of_vector(
-    alloc: Global,
-    surface: &Surface,
-    relabelling: &Relabelling,
-    coordinates: &str,
-) -> Result<Vec<u8>, Refusal>
-    requires sound { IsSound (surface_of surface.now) }
-    requires relabels { IsRelabelling surface.now.tri surface.now.tri relabelling.now }
-    ensures report { IsVectorReport (surface_of surface.now) (relabel relabelling.now ∷ [])
-        (coordinates_in coordinates.now) (shown result) ⊎ (result ≡ Err Refusal.Memory) }
-    ensures printed { IfOk result (λ bytes. IsImageLine (surface_of surface.now)
-        (relabel relabelling.now ∷ []) coordinates.now bytes.items) }
-    ensures refused { IfErr result (λ r.
-        (status_of r ≡ Status.InputRefused) ⊎ (r ≡ Refusal.Memory)) }
-{
-    relabelling_laws();
-    let Some(multicurve) = coordinates_in(alloc, coordinates)? else {
-        return Err(Refusal::CoordinatesRefused);
-    };
-    if !is_multicurve(&surface.tri, &multicurve) {
-        return Err(Refusal::CoordinatesRefused);
-    }
-    is_drawn(&surface.tri, &multicurve);
-    let vector = moved(alloc, relabelling, &multicurve)?;
-    Ok(line_of(alloc, &vector)?)
-}
-
-/// The line of the image of a multicurve under the word, which is the name of a generator.
-fn image_of_word(
-    alloc: Global,
-    surface: &Surface,
-    word: &str,
-    coordinates: &str,
-) -> Result<Vec<u8>, Refusal>
-    requires { IsSound (surface_of surface.now) }
-    ensures report { IsSurfaceReport (surface_of surface.now) word.now coordinates.now
-        (shown result) ⊎ (result ≡ Err Refusal.Memory) }
-    ensures printed { IfOk result (λ bytes. (path : List Move)
-        × (path_of word.now (surface_of surface.now).generators ≡ Some path)
-        × IsImageLine (surface_of surface.now) path coordinates.now bytes.items) }
-    ensures refused { IfErr result (λ r.
-        (status_of r ≡ Status.InputRefused) ⊎ (r ≡ Refusal.Memory)) }
-{
-    if !is_generator_name(word) {
-        return Err(Refusal::WordNotBuilt);
-    }
-    let Some(relabelling) = surface.generator(word) else {
-        return Err(Refusal::WordRefused);
-    };
-    image_of_vector(alloc, surface, &relabelling, coordinates)
-}
-
-/// The line of the image of a multicurve: of the surface in the file, under the word.
+/// The line of the image of a multicurve, given by its coordinates, under a word in the generators
+/// of the surface.
 pub(crate) fn image(
     alloc: Global,
-    file: &[u8],
+    s: &Surface,
     word: &str,
     coordinates: &str,
 ) -> Result<Vec<u8>, Refusal>
-    requires { length file.now ≤ surface_limit }
-    ensures report { IsFileReport (Some file.now) word.now coordinates.now (shown result)
+    requires { IsSurface s.now }
+    ensures report { IsWordReport (described s.now)
+        (reading moves_kind (described s.now).generators word.now) coordinates.now (shown result)
         ⊎ (result ≡ Err Refusal.Memory) }
     ensures printed { IfOk result (λ bytes.
-        IsImage file.now word.now coordinates.now bytes.items) }
-    ensures refused { IfErr result (λ r.
-        (status_of r ≡ Status.InputRefused) ⊎ (r ≡ Refusal.Memory)) }
+        IsImageLine (described s.now) word.now coordinates.now bytes.items) }
+    ensures refused { IfErr result IsAboutSurface }
 {
-    let surface = read_surface(alloc, file)?;
-    image_of_word(alloc, &surface, word, coordinates)
+    let path = read_word(alloc, s, word)?;
+    let numbers = numbers_in(alloc, coordinates)?;
+    image_along(alloc, s, &path, &numbers)
+}
+
+/// The line of the image of a multicurve, given by its numbers, along a path. All memory is taken
+/// before the first flip.
+fn image_along(
+    alloc: Global,
+    s: &Surface,
+    path: &Path,
+    numbers: &[u128],
+) -> Result<Vec<u8>, Refusal>
+    requires surface { IsSurface s.now }
+    requires closed { IsLoop s.now.atlas path.now }
+    ensures report { IsVectorReport (described s.now) (moves_of s.now.atlas path.now) numbers.now
+        (shown result) ⊎ (result ≡ Err Refusal.Memory) }
+    ensures printed { IfOk result (λ bytes. (v : List ℕ)
+        × IsDrawing (described s.now).triangles numbers.now
+        (draw (described s.now).triangles numbers.now)
+        × IsImageVector (described s.now).triangles numbers.now
+        (path_map (moves_of s.now.atlas path.now)) v
+        × (bytes.items ≡ line_of v)) }
+    ensures refused { IfErr result IsAboutSurface }
+{
+    drawing_laws();
+    atlas_laws();
+    let mut coords = Coords::new(&s.atlas, s.atlas.base(), numbers)?;
+    let room = room(alloc)?;
+    coords.follow(&s.atlas, path)?;
+    Ok(line_of(room, coords.values())?)
+}
+
+/// An empty line with room for that of any vector.
+fn room(alloc: Global) -> Result<String, Memory>
+    ensures { IfOk result (λ line. string_bytes line ≡ []) }
+{
+    Ok(String::with_capacity(alloc, LINE_ROOM)?)
 }

@@ -1,10 +1,11 @@
 //! The program's work: from a call's words to its report.
 //!
 //! `run` is the program's top call. Its contract is the project's claim, read in `specs/` in this
-//! order: `Command` (what the words ask for), `Surfaces` and `Vectors` (what a surface file and a
-//! vector are), `Report` (which status and which bytes a call answers), `Headline` (what the
-//! printed vector means) and `Run` (the causes of all other answers, which files are read, and what
-//! the sinks took). `WorkedDrawings` shows at three vectors what the headline speaks of.
+//! order: `Commands` (what the words ask for), `Coordinates` (the numbers of a vector), `Report`
+//! (which status and which bytes a call answers), `Headline` (what the printed vector means) and
+//! `Run` (the causes of all other answers, which files are read, and what the sinks took). What a
+//! surface file and a word are is defined in `surface_lib`. `WorkedDrawings` shows at three vectors
+//! what the headline speaks of.
 //!
 //! ```text
 //! let words = ["image", "sphere3.json", "r", "2,1,1"];
@@ -12,26 +13,31 @@
 //! // the output took `1 2 1` and the end of the line, and the status is Status::Done
 //! ```
 //!
-//! Below it, `work` goes from the words and the shelf to the bytes that are printed, one function
-//! per command. `command` and `names` read the words, `surface` and `json` a surface file, `vector`
-//! the coordinates; `line` is what is printed, and `answers` the statuses and the refusals.
+//! Below it, `settled` makes the line of a refusal, and `work` goes from the words and the shelf to
+//! the bytes that are printed: `commands` and `coordinates` read the words, `source` finds the
+//! surface, `show` and `image` are the commands, `line` the line of a vector; `answers` and `refusal`
+//! are the statuses and the refusals with their lines.
 #![tactic(auto)]
 
 mod answers;
-mod command;
+mod commands;
+mod coordinates;
 mod drawings;
 mod image;
-mod json;
 mod line;
-mod names;
 mod program;
-mod surface;
-mod vector;
+mod refusal;
+mod settled;
+mod show;
+mod source;
 mod work;
 
-pub use answers::{Refusal, Status};
+pub use answers::Status;
 pub use drawings::worked_drawings;
 pub use program::run;
+pub use refusal::{CoordinatesError, Refusal};
 
+#[cfg(test)]
+mod damaged_tests;
 #[cfg(test)]
 mod run_tests;

@@ -1,15 +1,15 @@
 //! The line that is printed.
-ghost use Rattle.std.specs.Prelude.{◌≡◌, IfOk};
+ghost use Rattle.std.specs.Prelude.{◌≡◌, [], IfOk, string_bytes};
 ghost use Rattle.flipper_cli.specs.Line.{line_of};
 
 use ideal_tri::Memory;
-use std::alloc::Global;
 
-/// Decimal numbers with one space between them, and the end of the line.
-pub(crate) fn line_of(alloc: Global, vector: &[u128]) -> Result<Vec<u8>, Memory>
+/// Decimal numbers with one space between them, and the end of the line, written into an empty text.
+pub(crate) fn line_of(room: String, vector: &[u128]) -> Result<Vec<u8>, Memory>
+    requires { string_bytes room ≡ [] }
     ensures { IfOk result (λ b. b.items ≡ line_of vector.now) }
 {
-    let mut line = String::new(alloc);
+    let mut line = room;
     for (k, n) in vector.iter().enumerate() {
         if k > 0 {
             line.push(' ')?;
@@ -35,7 +35,7 @@ mod tests {
             ),
             (&[][..], "\n"),
         ] {
-            let bytes = line_of(rt.alloc(), vector)?;
+            let bytes = line_of(String::new(rt.alloc()), vector)?;
             assert_eq!(rt; bytes.as_slice(), line.as_bytes());
         }
         Ok(())

@@ -1,46 +1,74 @@
 //! A run of the program.
 ghost use Rattle.std.specs.Prelude.{◌≡◌, ◌⊎◌, ◌≤◌, ℕ, List, [], Option, Some, None, Result, Vec};
 ghost use Rattle.std.specs.declared.alloc.Global.{Global};
-ghost use Rattle.flip_io.specs.Counts.{SameCounts};
+ghost use Rattle.flip_io.specs.Counts.{SameCounts, raised};
 ghost use Rattle.flip_io.specs.Files.{Files};
 ghost use Rattle.flip_io.specs.Reads.{AfterReads};
-ghost use Rattle.flip_io.specs.Taken.{Took};
+ghost use Rattle.flip_io.specs.Taken.{Took, TookPrefix};
 ghost use Rattle.flip_io.specs.declared.shelf.ShelfFault.TheVariants.{Absent, Failed};
-ghost use Rattle.flipper_cli.specs.Command.{IsReadBy, command};
+ghost use Rattle.flipper_cli.specs.Answers.{status_of};
+ghost use Rattle.flipper_cli.specs.Commands.{IsReadBy, command};
 ghost use Rattle.flipper_cli.specs.Run.{IsLacking, IsOver, IsQuiet, IsReported, IsRun, IsWritten};
 ghost use Rattle.flipper_cli.specs.Run.{PrintsHeadline, ReadRaised, SinkRaised, TellsNoFault};
 ghost use Rattle.flipper_cli.specs.Run.{shown};
-ghost use Rattle.flipper_cli.specs.declared.answers.Refusal.{Refusal};
+ghost use Rattle.flipper_cli.specs.inside.Places.{HasLine};
+ghost use Rattle.flipper_cli.specs.declared.refusal.Refusal.{Refusal};
 
-use crate::answers::{Refusal, Status};
-use crate::work::work;
+use crate::answers::Status;
+use crate::refusal::Refusal;
+use crate::settled::{Settled, fixed_line, settled_work};
 use flip_io::{Shelf, ShelfFault, Sink, write_all};
 use std::alloc::Global;
 
 /// Writes what the work found: its bytes to the output, or the line of a refusal to the error
 /// stream.
-fn deliver<O: Sink, E: Sink>(made: Result<Vec<u8>, Refusal>, out: &mut O, err: &mut E) -> Status
-    ensures written { IsWritten (shown made) result
+fn deliver<O: Sink, E: Sink>(settled: Settled, out: &mut O, err: &mut E) -> Status
+    requires { HasLine settled }
+    ensures written { IsWritten (shown settled.made) result
         (O.told out.old) (O.told out.new) (E.told err.old) (E.told err.new) }
     ensures sinks { result ≡ Status.SinkFault
         → SinkRaised (O.faults out.old) (O.faults out.new) (E.faults err.old) (E.faults err.new) }
     ensures uncounted { ¬ (result ≡ Status.SinkFault)
         → (O.faults out.new ≡ O.faults out.old) × (E.faults err.new ≡ E.faults err.old) }
 {
+    let Settled { made, line } = settled;
     match made {
-        Ok(bytes) => {
-            if write_all(out, bytes.as_slice()).is_err() {
-                return Status::SinkFault;
-            }
-            Status::Done
-        }
+        Ok(bytes) => write_answer(out, bytes.as_slice()),
         Err(refusal) => {
-            if write_all(err, refusal.line().as_bytes()).is_err() {
-                return Status::SinkFault;
-            }
-            refusal.status()
+            let line = match fixed_line(refusal) {
+                Some(line) => line.as_bytes(),
+                None => line.as_slice(),
+            };
+            write_refusal(err, refusal, line)
         }
     }
+}
+
+/// Writes an answer to the output.
+fn write_answer<O: Sink>(out: &mut O, bytes: &[u8]) -> Status
+    ensures written { ((result ≡ Status.Done) × Took (O.told out.old) (O.told out.new) bytes.now)
+        ⊎ ((result ≡ Status.SinkFault) × TookPrefix (O.told out.old) (O.told out.new) bytes.now) }
+    ensures sinks { result ≡ Status.SinkFault → O.faults out.new ≡ raised (O.faults out.old) }
+    ensures uncounted { ¬ (result ≡ Status.SinkFault) → O.faults out.new ≡ O.faults out.old }
+{
+    if write_all(out, bytes).is_err() {
+        return Status::SinkFault;
+    }
+    Status::Done
+}
+
+/// Writes the line of a refusal to the error stream.
+fn write_refusal<E: Sink>(err: &mut E, refusal: Refusal, line: &[u8]) -> Status
+    ensures written { ((result ≡ status_of refusal)
+        × Took (E.told err.old) (E.told err.new) line.now)
+        ⊎ ((result ≡ Status.SinkFault) × TookPrefix (E.told err.old) (E.told err.new) line.now) }
+    ensures sinks { result ≡ Status.SinkFault → E.faults err.new ≡ raised (E.faults err.old) }
+    ensures uncounted { ¬ (result ≡ Status.SinkFault) → E.faults err.new ≡ E.faults err.old }
+{
+    if write_all(err, line).is_err() {
+        return Status::SinkFault;
+    }
+    refusal.status()
 }
 
 /// Runs the command that the words name: reads its files from the shelf, and writes what it prints
@@ -125,6 +153,6 @@ pub fn run<S: Shelf, O: Sink, E: Sink>(
     ensures some_files { result ≡ Status.Done → (files : Files)
         × PrintsHeadline words.now files (O.told out.old) (O.told out.new) }
 {
-    let made = work(alloc, words, shelf);
-    deliver(made, out, err)
+    let settled = settled_work(alloc, words, shelf);
+    deliver(settled, out, err)
 }

@@ -22,10 +22,16 @@ const SPHERE4: &str = r#"{"format":"flipper-surface",
 "generators":[{"flips":[],"name":"r","relabel":[1,2,0,5,-4,-5]}],
 "name":"S_0_4","triangles":[[0,3,-2],[2,-5,-1],[1,5,-3],[4,-6,-4]],"version":1}"#;
 
-/// The file `torus.json`: a generator with a flip, which isn't built.
+/// The file `torus.json`: the once-punctured torus, two twists of it, and a product of them.
 const TORUS: &str = r#"{"format":"flipper-surface",
-"generators":[{"flips":[0],"name":"a","relabel":[2,1,-1]}],
-"name":"S_1_1","triangles":[[0,1,2],[-1,-2,-3]],"version":1}"#;
+"generators":[{"flips":[0],"name":"a","relabel":[2,1,-1]},
+{"flips":[0],"name":"b","relabel":[-2,-1,2]},{"name":"p","word":"(a.b)^2"}],
+"name":"S_1_1","triangles":[[0,1,2],[-1,-2,-3]],"version":2}"#;
+
+/// The file `pair.json`: two spheres, which `w` exchanges.
+const PAIR: &str = r#"{"format":"flipper-surface",
+"generators":[{"flips":[],"name":"w","relabel":[3,4,5,0,1,2]}],
+"name":"pair","triangles":[[0,1,2],[-1,-3,-2],[3,4,5],[-4,-6,-5]],"version":2}"#;
 
 /// The file `brackets.json`: nested too deep.
 const BRACKETS: &str = "[[[[[[[[[[[[[[[[[[[[[[[[[[[[[[[[[[[[[[[[[[[[[[[[[[[[[[[[[[[[[[[[
@@ -46,10 +52,11 @@ fn words_of(alloc: Global, texts: &[&str]) -> Result<Vec<String>, AllocError> {
 }
 
 /// The files, by their names.
-const FILES: [(&str, &str); 4] = [
+const FILES: [(&str, &str); 5] = [
     ("sphere3.json", SPHERE3),
     ("sphere4.json", SPHERE4),
     ("torus.json", TORUS),
+    ("pair.json", PAIR),
     ("brackets.json", BRACKETS),
 ];
 
@@ -107,7 +114,7 @@ fn check(
 }
 
 /// Rows of calls that read a file that is there.
-const READING: [Row; 9] = [
+const READING: [Row; 14] = [
     (
         &["image", "sphere3.json", "r", "2,1,1"],
         Status::Done,
@@ -115,7 +122,13 @@ const READING: [Row; 9] = [
         "",
     ),
     (
-        &["image", "sphere3.json", "r", "0,0,0"],
+        &["image", "sphere3.json", "r.r", "2,1,1"],
+        Status::Done,
+        "1 1 2\n",
+        "",
+    ),
+    (
+        &["image", "sphere3.json", "", "0,0,0"],
         Status::Done,
         "0 0 0\n",
         "",
@@ -127,61 +140,78 @@ const READING: [Row; 9] = [
         "",
     ),
     (
-        &["image", "torus.json", "a", "1,1,0"],
-        Status::InputRefused,
+        &["image", "torus.json", "p", "1,1,0"],
+        Status::Done,
+        "2 5 3\n",
         "",
-        "error: surface NotBuilt\n",
+    ),
+    (
+        &["image", "torus.json", "P.p", "3,1,2"],
+        Status::Done,
+        "3 1 2\n",
+        "",
+    ),
+    (
+        &["image", "pair.json", "w", "2,1,1,0,0,0"],
+        Status::Done,
+        "0 0 0 2 1 1\n",
+        "",
+    ),
+    (
+        &["show", "pair.json"],
+        Status::Done,
+        "name pair\nedges 6\ntriangles 4\nvertices 6\ngenus 0\ngenerators w\ncomponents 2\n",
+        "",
     ),
     (
         &["image", "brackets.json", "r", "2,1,1"],
         Status::InputRefused,
         "",
-        "error: surface Refused\n",
+        "error: surface NotJson\n",
     ),
     (
-        &["image", "sphere3.json", "r.r", "2,1,1"],
+        &["image", "sphere3.json", "r.q", "2,1,1"],
         Status::InputRefused,
         "",
-        "error: word NotBuilt\n",
-    ),
-    (
-        &["image", "sphere3.json", "q", "2,1,1"],
-        Status::InputRefused,
-        "",
-        "error: word Refused\n",
+        "error: word UnknownName 1\n",
     ),
     (
         &["image", "sphere3.json", "r", "2,1,0"],
         Status::InputRefused,
         "",
-        "error: coordinates Refused\n",
+        "error: coordinates OddTriangle 0\n",
+    ),
+    (
+        &["image", "sphere3.json", "r", "2,1"],
+        Status::InputRefused,
+        "",
+        "error: coordinates WrongLength 2\n",
     ),
     (
         &["image", "sphere3.json", "r", "2,,1"],
         Status::InputRefused,
         "",
-        "error: coordinates Refused\n",
+        "error: coordinates BadNumber 1\n",
+    ),
+    (
+        &[
+            "image",
+            "torus.json",
+            "a",
+            "0,42535295865117307932921825928971026432,42535295865117307932921825928971026432",
+        ],
+        Status::Overflow,
+        "",
+        "error: overflow flip 1 edge 0 value 85070591730234615865843651857942052864\n",
     ),
 ];
 
 /// Rows of calls that read no file that is there.
-const ROWS: [Row; 8] = [
+const ROWS: [Row; 9] = [
     (&[], Status::WordsRefused, "", "error: usage\n"),
     (&["image"], Status::WordsRefused, "", "error: usage\n"),
     (
-        &["show", "sphere3.json"],
-        Status::WordsRefused,
-        "",
-        "error: usage\n",
-    ),
-    (
         &["Image", "sphere3.json", "r", "2,1,1"],
-        Status::WordsRefused,
-        "",
-        "error: usage\n",
-    ),
-    (
-        &["image", "@S_0_3", "r", "2,1,1"],
         Status::WordsRefused,
         "",
         "error: usage\n",
@@ -197,6 +227,24 @@ const ROWS: [Row; 8] = [
         Status::WordsRefused,
         "",
         "error: usage\n",
+    ),
+    (
+        &["image", "@S_1_1", "(a.B)^-6", "3,1,2"],
+        Status::Done,
+        "3 1 2\n",
+        "",
+    ),
+    (
+        &["show", "@S_1_1"],
+        Status::Done,
+        "name S_1_1\nedges 3\ntriangles 2\nvertices 1\ngenus 1\ngenerators a b\n",
+        "",
+    ),
+    (
+        &["show", "@S_1_2"],
+        Status::InputRefused,
+        "",
+        "error: surface UnknownBuiltin\n",
     ),
     (
         &["image", "absent.json", "r", "2,1,1"],

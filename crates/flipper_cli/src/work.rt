@@ -1,45 +1,75 @@
 //! From the words and the shelf to what is printed.
-ghost use Rattle.std.specs.Prelude.{◌≡◌, ◌⊎◌, ◌≤◌, ◌↔◌, ℕ, List, Some, None, IfOk, IsErrOf};
-ghost use Rattle.flip_io.specs.Counts.{SameCounts, raised};
+ghost use Rattle.std.specs.Prelude.{◌≡◌, ◌⊎◌, ◌↔◌, ℕ, List, Some, None, Err, IfOk, IfErr, IsErrOf};
+ghost use Rattle.flip_io.specs.Counts.{SameCounts};
 ghost use Rattle.flip_io.specs.Files.{Files};
 ghost use Rattle.flip_io.specs.Reads.{AfterReads};
-ghost use Rattle.flipper_cli.specs.Answers.{refused};
-ghost use Rattle.flipper_cli.specs.Command.{IsReadBy, command};
-ghost use Rattle.flipper_cli.specs.Headline.{IsHeadline, IsImage};
-ghost use Rattle.flipper_cli.specs.Report.{IsFileReport};
+ghost use Rattle.surface_lib.specs.Described.{described};
+ghost use Rattle.surface_lib.specs.Surfaces.{IsSurface};
+ghost use Rattle.flipper_cli.specs.Commands.{IsReadBy, command, source_in};
+ghost use Rattle.flipper_cli.specs.Headline.{IsHeadline, IsPrinted};
+ghost use Rattle.flipper_cli.specs.Report.{IsSurfaceReport};
 ghost use Rattle.flipper_cli.specs.Run.{IsAnswer, IsLacking, IsOver, ReadRaised, shown};
+ghost use Rattle.flipper_cli.specs.inside.SeenCommand.{seen, seen_source};
+ghost use Rattle.flipper_cli.specs.inside.AboutSurfaces.{IsAboutSurface};
+ghost use Rattle.flipper_cli.specs.inside.CommandAnswers.{IsCommandAnswer};
+ghost use Rattle.flipper_cli.specs.inside.Sources.{LacksSource, ReadOfSourceRaised};
 
-use crate::answers::Refusal;
-use crate::command::{Command, command_of};
+use crate::commands::{Command, Source, command_of};
 use crate::image::image;
-use flip_io::{Shelf, read_all};
+use crate::refusal::Refusal;
+use crate::show::show;
+use crate::source::find;
+use flip_io::Shelf;
 use std::alloc::Global;
+use surface_lib::Surface;
 
-/// The most bytes of a surface file.
-const SURFACE_LIMIT: u64 = 1_048_576;
+/// The surface that a command is about.
+fn source_of(command: Command<'_>) -> Source<'_>
+    ensures { seen_source result ≡ source_in (seen command.entry) }
+{
+    match command {
+        Command::Show { source } => source,
+        Command::Image { source, .. } => source,
+    }
+}
 
-/// `image FILE WORD COORDS`.
-fn image_of_file<S: Shelf>(
-    alloc: Global,
-    shelf: &mut S,
-    file: &str,
-    word: &str,
-    coordinates: &str,
-) -> Result<Vec<u8>, Refusal>
-    ensures told { S.told shelf.new ≡ S.told shelf.old }
-    ensures reads { AfterReads S.after_read (λ read. read ≡ file.now) shelf.old shelf.new }
-    ensures report { (files : Files) → S.told shelf.old ≡ Some files
-        → IsFileReport (files file.now) word.now coordinates.now (shown result)
-        ⊎ ((shown result ≡ refused Refusal.Failed) ⊎ (shown result ≡ refused Refusal.Memory)) }
+/// What a command prints about its surface.
+fn about(alloc: Global, s: &Surface, command: Command) -> Result<Vec<u8>, Refusal>
+    requires { IsSurface s.now }
+    ensures report { IsSurfaceReport (seen command.entry) (described s.now) (shown result)
+        ⊎ (result ≡ Err Refusal.Memory) }
+    ensures printed { IfOk result (λ bytes.
+        IsPrinted (seen command.entry) (described s.now) bytes.items) }
+    ensures refused { IfErr result IsAboutSurface }
+{
+    match command {
+        Command::Show { .. } => Ok(show(alloc, s)?),
+        Command::Image {
+            word,
+            coordinates,
+            ..
+        } => image(alloc, s, word, coordinates),
+    }
+}
+
+/// What a command prints.
+fn answer<S: Shelf>(alloc: Global, shelf: &mut S, command: Command) -> Result<Vec<u8>, Refusal>
+    ensures report { (files : Files)
+        → (S.told shelf.old ≡ Some files) ⊎ ((name : List ℕ) → ¬ IsReadBy (Some (seen command.entry)) name)
+        → IsCommandAnswer (seen command.entry) files (shown result) }
     ensures usage { ¬ IsErrOf result Refusal.Usage }
 
+    // The reads.
+    ensures told { S.told shelf.new ≡ S.told shelf.old }
+    ensures reads { AfterReads S.after_read (IsReadBy (Some (seen command.entry))) shelf.old shelf.new }
+
     // The causes, and the counts.
-    ensures failed { IsErrOf result Refusal.Failed
-        → S.faults shelf.new file.now ≡ raised (S.faults shelf.old file.now) }
+    ensures failed { IsErrOf result Refusal.Failed → ReadOfSourceRaised (source_in (seen command.entry))
+        (S.faults shelf.old) (S.faults shelf.new) }
     ensures lacks { (files : Files) → S.told shelf.old ≡ Some files
-        → IsErrOf result Refusal.Absent ↔ (files file.now ≡ None) }
+        → IsErrOf result Refusal.Absent ↔ LacksSource (source_in (seen command.entry)) files }
     ensures absent { S.told shelf.old ≡ None → IsErrOf result Refusal.Absent
-        → S.faults shelf.new file.now ≡ raised (S.faults shelf.old file.now) }
+        → ReadOfSourceRaised (source_in (seen command.entry)) (S.faults shelf.old) (S.faults shelf.new) }
     ensures uncounted { (¬ IsErrOf result Refusal.Failed) → (¬ IsErrOf result Refusal.Absent)
         → SameCounts (S.faults shelf.old) (S.faults shelf.new) }
     ensures missed { (files : Files) → S.told shelf.old ≡ Some files
@@ -47,13 +77,12 @@ fn image_of_file<S: Shelf>(
 
     // What is printed.
     ensures headline { (files : Files) → S.told shelf.old ≡ Some files → IfOk result (λ bytes.
-        (found : List ℕ) × (files file.now ≡ Some found)
-        × IsImage found word.now coordinates.now bytes.items) }
-    ensures some_file { IfOk result (λ bytes.
-        (found : List ℕ) × IsImage found word.now coordinates.now bytes.items) }
+        IsHeadline (Some (seen command.entry)) files bytes.items) }
+    ensures some_files { IfOk result (λ bytes.
+        (files : Files) × IsHeadline (Some (seen command.entry)) files bytes.items) }
 {
-    let bytes = read_all(alloc, shelf, file, SURFACE_LIMIT)?;
-    image(alloc, bytes.as_slice(), word, coordinates)
+    let surface = find(alloc, shelf, source_of(command))?;
+    about(alloc, &surface, command)
 }
 
 /// What the command that the words fit prints.
@@ -91,12 +120,6 @@ pub(crate) fn work<S: Shelf>(
 {
     match command_of(words) {
         None => Err(Refusal::Usage),
-        Some(
-            Command::Image {
-                file,
-                word,
-                coordinates,
-            },
-        ) => image_of_file(alloc, shelf, file, word, coordinates),
+        Some(command) => answer(alloc, shelf, command),
     }
 }

@@ -1,0 +1,62 @@
+-- The words of the command line, and the names of files that a command reads.
+use Rattle.std.specs.Prelude.{◌≡◌, ◌&&◌, ◌==◌, ℕ, List, [], ◌∷◌, Option, Some, None, Bool, true}
+use Rattle.std.specs.Prelude.{not, String, string_bytes, codes, if◌then◌else◌}
+use Rattle.std.specs.Str.{bytes_eq}
+use Rattle.std.specs.declared.alloc.Global.{Global}
+
+-- where a surface comes from: a file on the shelf, or the program itself
+pub data Source : Type 0 where
+  file : (name : List ℕ) → Source
+  builtin : (name : List ℕ) → Source
+
+-- what the program is asked for
+pub data Command : Type 0 where
+  show : (source : Source) → Command
+  image : (source : Source) (word coordinates : List ℕ) → Command
+
+-- a text that may stand in the place of FILE, WORD or COORDS: it doesn't begin with `-`
+abbrev pub is_argument : List ℕ → Bool
+is_argument [] = true
+is_argument (c ∷ text) = not (c == 45)
+
+-- what FILE stands for: behind `@`, the name of a built-in surface; else a file's name
+abbrev pub source_of : List ℕ → Source
+source_of [] = file []
+source_of (c ∷ text) = if c == 64 then builtin text else file (c ∷ text)
+
+abbrev pub show_command : List ℕ → Option Command
+show_command source = if is_argument source then Some (show (source_of source)) else None
+
+abbrev pub image_command : List ℕ → List ℕ → List ℕ → Option Command
+image_command source word coordinates =
+    if is_argument source && (is_argument word && is_argument coordinates)
+    then Some (image (source_of source) word coordinates)
+    else None
+
+-- the command that the words fit: `show FILE` or `image FILE WORD COORDS`
+abbrev pub command : List (String Global) → Option Command
+command (name ∷ (source ∷ [])) =
+    if bytes_eq (string_bytes name) (codes "show")
+    then show_command (string_bytes source)
+    else None
+command (name ∷ (source ∷ (word ∷ (coordinates ∷ [])))) =
+    if bytes_eq (string_bytes name) (codes "image")
+    then image_command (string_bytes source) (string_bytes word) (string_bytes coordinates)
+    else None
+command _ = None
+
+-- ---- the files that are read
+
+-- the surface that the command is about
+abbrev pub source_in : Command → Source
+source_in (show source) = source
+source_in (image source word coordinates) = source
+
+abbrev pub IsReadFrom : Source → List ℕ → Type 0
+IsReadFrom (file name) read = read ≡ name
+IsReadFrom (builtin name) read = ⊥
+
+-- the name is one that the words make the program read: the file of their command, if it has one
+abbrev pub IsReadBy : Option Command → List ℕ → Type 0
+IsReadBy None name = ⊥
+IsReadBy (Some asked) name = IsReadFrom (source_in asked) name

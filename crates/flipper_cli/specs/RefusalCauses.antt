@@ -1,0 +1,37 @@
+-- Which refusal answers an error of a layer below: want of memory is one refusal wherever it comes.
+use Rattle.flip_io.specs.declared.whole.ReadError.{ReadError}
+use Rattle.flip_io.specs.declared.whole.ReadError.TheVariants as read
+use Rattle.surface_lib.specs.declared.error.WordError.{WordError}
+use Rattle.surface_lib.specs.declared.error.WordError.TheVariants as word
+use Rattle.surface_lib.specs.declared.surface_error.SurfaceError.{SurfaceError}
+use Rattle.surface_lib.specs.declared.surface_error.SurfaceError.TheVariants as surface
+use Rattle.surface_lib.specs.declared.builtins.BuiltinError.{BuiltinError}
+use Rattle.surface_lib.specs.declared.builtins.BuiltinError.TheVariants as builtin
+use Rattle.flipper_cli.specs.declared.coordinates.NumbersError.{NumbersError}
+use Rattle.flipper_cli.specs.declared.coordinates.NumbersError.TheVariants as numbers
+use Rattle.flipper_cli.specs.declared.refusal.CoordinatesError.TheVariants.{BadNumber}
+use Rattle.flipper_cli.specs.declared.refusal.Refusal.{Refusal}
+use Rattle.flipper_cli.specs.declared.refusal.Refusal.TheVariants.{Absent, Failed}
+use Rattle.flipper_cli.specs.declared.refusal.Refusal.TheVariants.{Surface, Word, Coordinates, UnknownBuiltin, Memory}
+
+abbrev pub for_read : ReadError → Refusal
+for_read read.Absent = Absent
+for_read read.Failed = Failed
+for_read read.TooLong = Surface surface.FileTooLong
+for_read read.Memory = Memory
+
+abbrev pub for_surface : SurfaceError → Refusal
+for_surface surface.Memory = Memory
+for_surface error = Surface error
+
+abbrev pub for_word : WordError → Refusal
+for_word word.Memory = Memory
+for_word error = Word error
+
+abbrev pub for_numbers : NumbersError → Refusal
+for_numbers (numbers.BadNumber i) = Coordinates (BadNumber i)
+for_numbers numbers.Memory = Memory
+
+abbrev pub for_builtin : BuiltinError → Refusal
+for_builtin builtin.UnknownBuiltin = UnknownBuiltin
+for_builtin builtin.Memory = Memory

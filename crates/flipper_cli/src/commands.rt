@@ -1,0 +1,168 @@
+//! The words of the command line.
+ghost use Rattle.std.specs.Prelude.{◌≡◌, MatchOption, Some, None};
+ghost use Rattle.flipper_cli.specs.Commands.{command, show_command, image_command, is_argument};
+ghost use Rattle.flipper_cli.specs.Commands.{source_of};
+ghost use Rattle.flipper_cli.specs.inside.SeenCommand.{seen, seen_source};
+
+/// Where a surface comes from.
+#[derive(Clone, Copy)]
+pub(crate) enum Source<'a> {
+    /// The file of this name on the shelf.
+    File(&'a str),
+    /// The surface of this name that is part of the program.
+    Builtin(&'a str),
+}
+
+/// What the program is asked for.
+#[derive(Clone, Copy)]
+pub(crate) enum Command<'a> {
+    /// What a surface is.
+    Show {
+        source: Source<'a>,
+    },
+    /// The image of a vector under a word in the generators of a surface.
+    Image {
+        source: Source<'a>,
+        word: &'a str,
+        coordinates: &'a str,
+    },
+}
+
+/// The command that the words fit: `show FILE` or `image FILE WORD COORDS`. None of FILE, WORD and
+/// COORDS begins with `-`. A FILE that begins with `@` names a built-in surface behind it; any other
+/// is a file's name.
+pub(crate) fn command_of(words: &[String]) -> Option<Command<'_>>
+    ensures { MatchOption result (command words.now ≡ None)
+        (λ c. command words.now ≡ Some (seen c)) }
+{
+    match words {
+        [name, file] if name.as_str() == "show" => show_command(file.as_str()),
+        [name, file, word, coordinates] if name.as_str() == "image" => {
+            image_command(file.as_str(), word.as_str(), coordinates.as_str())
+        }
+        _ => None,
+    }
+}
+
+/// The command `show` with this word behind it, if it may stand there.
+fn show_command(file: &str) -> Option<Command<'_>>
+    ensures { MatchOption result (show_command file.now ≡ None)
+        (λ c. show_command file.now ≡ Some (seen c)) }
+{
+    if is_argument(file) {
+        Some(Command::Show {
+            source: source_of(file),
+        })
+    } else {
+        None
+    }
+}
+
+/// The command `image` with these words behind it, if they may stand there.
+fn image_command<'a>(file: &'a str, word: &'a str, coordinates: &'a str) -> Option<Command<'a>>
+    ensures { MatchOption result (image_command file.now word.now coordinates.now ≡ None)
+        (λ c. image_command file.now word.now coordinates.now ≡ Some (seen c)) }
+{
+    if is_argument(file) && is_argument(word) && is_argument(coordinates) {
+        Some(Command::Image {
+            source: source_of(file),
+            word,
+            coordinates,
+        })
+    } else {
+        None
+    }
+}
+
+/// What a FILE stands for.
+fn source_of(file: &str) -> Source<'_>
+    ensures { seen_source result ≡ source_of file.now }
+{
+    match file.strip_prefix('@') {
+        Some(name) => Source::Builtin(name),
+        None => Source::File(file),
+    }
+}
+
+/// The text may stand in the place of FILE, WORD or COORDS: it doesn't begin with `-`.
+fn is_argument(text: &str) -> bool
+    ensures { result ≡ is_argument text.now }
+{
+    text.as_bytes().first() != Some(&b'-')
+}
+
+#[cfg(test)]
+mod tests {
+    use super::*;
+    use std::alloc::{AllocError, Global};
+    use std::test::Fail;
+
+    fn words_of(alloc: Global, line: &str) -> Result<Vec<String>, AllocError> {
+        let mut words = Vec::new(alloc);
+        for word in line.split(' ') {
+            words.push(word.to_string(alloc)?)?;
+        }
+        Ok(words)
+    }
+
+    #[test]
+    fn commands(rt: HostRuntime) -> Result<(), Fail> {
+        for (line, fits) in [
+            ("show torus.json", true),
+            ("show @torus", true),
+            ("show @", true),
+            ("show ./-torus", true),
+            ("show ", true),
+            ("image torus.json r 1,1,2", true),
+            ("image @torus @ @", true),
+            ("image torus.json  ", true),
+            ("show", false),
+            ("show -torus", false),
+            ("show torus.json r", false),
+            ("show torus.json r 1,1,2", false),
+            ("Show torus.json", false),
+            ("image torus.json", false),
+            ("image torus.json r", false),
+            ("image torus.json r 1 1", false),
+            ("images torus.json r 1", false),
+            ("image -torus r 1", false),
+            ("image torus.json -r 1", false),
+            ("image torus.json r -1", false),
+            ("", false),
+        ] {
+            let words = words_of(rt.alloc(), line)?;
+            assert_eq!(rt; command_of(&words).is_some(), fits, "at {line}");
+        }
+        Ok(())
+    }
+
+    #[test]
+    fn parts(rt: HostRuntime) -> Result<(), Fail> {
+        let words = words_of(rt.alloc(), "show @torus")?;
+        let asked = command_of(&words);
+        assert!(rt;
+            matches!(
+                asked,
+                Some(Command::Show {
+                    source: Source::Builtin("torus")
+                })
+            )
+        );
+        let words = words_of(rt.alloc(), "image torus.json r 1,1,2")?;
+        if let Some(
+            Command::Image {
+                source: Source::File(file),
+                word,
+                coordinates,
+            },
+        ) = command_of(&words)
+        {
+            assert_eq!(rt; file, "torus.json");
+            assert_eq!(rt; word, "r");
+            assert_eq!(rt; coordinates, "1,1,2");
+        } else {
+            assert!(rt; false, "the words fit no image of a file");
+        }
+        Ok(())
+    }
+}
