@@ -27,11 +27,13 @@
 
 mod coords;
 mod corners;
+mod lines;
 mod moves;
 mod sums;
 #[cfg(test)]
 mod tests;
 
 pub use coords::{COORDINATE_LIMIT, Coords, CoordsError};
+pub use lines::CurveLine;
 pub use moves::{Overflow, OverflowAt};
 pub use sums::NotMulticurve;

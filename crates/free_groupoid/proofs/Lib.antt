@@ -64,3 +64,5 @@ pub mod Returns
 pub mod RelatedTest
 pub mod PathMaps
 pub mod RelatedPaths
+pub mod InnerPowers
+pub mod FoundMaps

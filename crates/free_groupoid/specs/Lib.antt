@@ -9,5 +9,7 @@ pub mod Related
 pub mod ForestLaws
 pub mod InnerAnswers
 pub mod InnerLaws
+pub mod Periodic
+pub mod PeriodicLaws
 pub mod RelatedLaws
 pub mod inside

@@ -4,10 +4,12 @@ ghost use Rattle.std.specs.Prelude.{ℤ, List};
 ghost use Rattle.ideal_tri.specs.Triangulations.{IsTriangulation};
 ghost use Rattle.free_groupoid.specs.ForestLaws.{ForestLaws};
 ghost use Rattle.free_groupoid.specs.InnerLaws.{InnerLaws, InnerMapLaws};
+ghost use Rattle.free_groupoid.specs.PeriodicLaws.{PeriodicLaws, FoundLaws};
 ghost use Rattle.free_groupoid.specs.RelatedLaws.{RelatedLaws, RelationLaws};
 
+use crate::laws::groupoid_laws;
 use ideal_tri::{component_laws, label_laws, surface_laws, word_laws};
-use tri_atlas::map_laws;
+use tri_atlas::{atlas_laws, map_laws};
 
 /// What is proved of the spanning forest of a triangulation.
 pub fn forest_laws()
@@ -44,4 +46,18 @@ pub fn related_laws()
     surface_laws();
     map_laws();
     forest_laws();
+}
+
+/// What is proved of inner powers, and of what the calls find of the map of a path.
+pub fn periodic_laws()
+    ensures powers { PeriodicLaws }
+    ensures found { FoundLaws }
+{
+    label_laws();
+    word_laws();
+    surface_laws();
+    map_laws();
+    atlas_laws();
+    groupoid_laws();
+    inner_laws();
 }

@@ -35,7 +35,7 @@ mod triangles;
 mod walk;
 mod word;
 
-pub use inner_maps::{forest_laws, inner_laws, related_laws};
+pub use inner_maps::{forest_laws, inner_laws, periodic_laws, related_laws};
 pub use inner_test::{InnerAnswer, inner};
 pub use laws::groupoid_laws;
 pub use letter::{LetterImage, move_image};
