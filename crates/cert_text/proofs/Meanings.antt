@@ -1,0 +1,42 @@
+-- A certificate of a periodic word holds only where the word is periodic of its order: its walks show
+-- that the power is inner, and the reason at place j - 1 is a closed walk that power j moves, so that
+-- no smaller power is.
+use Rattle.std.proofs.Common.{◌<◌, ℕ, zero, suc, ℤ, List, [], length, slice_index_or, subst, arith}
+use Rattle.std.specs.List.{repeat}
+use Rattle.std.proofs.Math.Numerals.{add-one}
+use Rattle.ideal_tri.specs.Triangulations.{IsTriangulation}
+use Rattle.tri_atlas.specs.Maps.{path_map}
+use Rattle.tri_atlas.specs.Moves.{Move}
+use Rattle.free_groupoid.specs.Inner.{IsKept}
+use Rattle.free_groupoid.specs.InnerLaws.{IsReducedLoop}
+use Rattle.free_groupoid.specs.Periodic.{IsPeriodic}
+use Rattle.free_groupoid.specs.PeriodicLaws.{PeriodicLaws}
+use Rattle.cert_text.specs.Certificates.{Certificate, periodic, unknown}
+use Rattle.cert_text.specs.CertificateLaws.{IsMeant}
+use Rattle.cert_text.specs.Holds.{IsPeriodicCertificate, HoldsFor}
+
+-- each smaller power moves its reason
+refuted : (triples : List (List ℤ)) (moves : List Move) (order : ℕ) (paths reasons : List (List ℤ)) (j : ℕ)
+    → IsPeriodicCertificate triples moves order paths reasons → 0 < j → j < order
+    → (w : List ℤ) × IsReducedLoop triples w × ¬ IsKept (path_map (repeat j moves)) w
+refuted triples moves order paths reasons zero h some smaller = absurd (omega arith)
+refuted triples moves order paths reasons (suc i) h some smaller =
+    let inside : i < length reasons = omega (arith, h.one_reason_each) in (
+      slice_index_or reasons i [],
+      h.loops i inside,
+      subst (λ (k : ℕ). ¬ IsKept (path_map (repeat k moves)) (slice_index_or reasons i [])) (add-one i)
+          (h.moved i inside),
+    )
+
+least_power : (laws : PeriodicLaws) (triples : List (List ℤ)) (moves : List Move) (order : ℕ)
+    (paths reasons : List (List ℤ)) → IsTriangulation triples
+    → IsPeriodicCertificate triples moves order paths reasons → IsPeriodic triples moves order
+least_power laws triples moves order paths reasons sound h =
+    laws.least triples moves order sound h.positive ((λ t. slice_index_or paths t []), h.inner.inner)
+    (λ j some smaller. refuted triples moves order paths reasons j h some smaller)
+
+pub meaning : (laws : PeriodicLaws) (triples : List (List ℤ)) (moves : List Move) (c : Certificate)
+    → IsTriangulation triples → HoldsFor triples moves c → IsMeant triples moves c
+meaning laws triples moves (periodic order paths reasons) sound h =
+    least_power laws triples moves order paths reasons sound h
+meaning laws triples moves (unknown powers capped curves tracks) sound h = tt

@@ -1,0 +1,4 @@
+pub mod Certificates
+pub mod Holds
+pub mod CertificateLaws
+pub mod Texts

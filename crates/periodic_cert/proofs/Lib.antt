@@ -1,0 +1,5 @@
+pub mod Repeats
+pub mod Turns
+pub mod Passing
+pub mod Reasons
+pub mod Search
