@@ -1,8 +1,10 @@
 -- The words of the command line, and the names of files that a command reads.
 use Rattle.std.specs.Prelude.{◌≡◌, ◌&&◌, ◌==◌, ℕ, List, [], ◌∷◌, Option, Some, None, Bool, true}
-use Rattle.std.specs.Prelude.{not, String, string_bytes, codes, if◌then◌else◌}
+use Rattle.std.specs.Prelude.{not, map, String, string_bytes, codes, if◌then◌else◌}
+use Rattle.std.specs.Option.{option_map}
 use Rattle.std.specs.Str.{bytes_eq}
 use Rattle.std.specs.declared.alloc.Global.{Global}
+use Rattle.flipper_cli.specs.Options.{Budget, budget_of}
 
 -- where a surface comes from: a file on the shelf, or the program itself
 pub data Source : Type 0 where
@@ -13,6 +15,7 @@ pub data Source : Type 0 where
 pub data Command : Type 0 where
   show : (source : Source) → Command
   image : (source : Source) (word coordinates : List ℕ) → Command
+  classify : (source : Source) (word : List ℕ) (budget : Budget) → Command
 
 -- a text that may stand in the place of FILE, WORD or COORDS: it doesn't begin with `-`
 abbrev pub is_argument : List ℕ → Bool
@@ -33,17 +36,31 @@ image_command source word coordinates =
     then Some (image (source_of source) word coordinates)
     else None
 
--- the command that the words fit: `show FILE` or `image FILE WORD COORDS`
+-- just one word behind FILE and WORD
+abbrev pub image_with : List ℕ → List ℕ → List (List ℕ) → Option Command
+image_with source word (coordinates ∷ []) = image_command source word coordinates
+image_with source word _ = None
+
+abbrev pub classify_command : List ℕ → List ℕ → List (List ℕ) → Option Command
+classify_command source word options =
+    if is_argument source && is_argument word
+    then option_map (classify (source_of source) word) (budget_of options)
+    else None
+
+-- the command that the words fit: `show FILE`, `image FILE WORD COORDS`, or `classify FILE WORD` and
+-- options
+abbrev pub command_named : List ℕ → List (List ℕ) → Option Command
+command_named name (source ∷ []) =
+    if bytes_eq name (codes "show") then show_command source else None
+command_named name (source ∷ (word ∷ options)) =
+    if bytes_eq name (codes "classify") then classify_command source word options
+    else if bytes_eq name (codes "image") then image_with source word options
+    else None
+command_named name [] = None
+
 abbrev pub command : List (String Global) → Option Command
-command (name ∷ (source ∷ [])) =
-    if bytes_eq (string_bytes name) (codes "show")
-    then show_command (string_bytes source)
-    else None
-command (name ∷ (source ∷ (word ∷ (coordinates ∷ [])))) =
-    if bytes_eq (string_bytes name) (codes "image")
-    then image_command (string_bytes source) (string_bytes word) (string_bytes coordinates)
-    else None
-command _ = None
+command [] = None
+command (name ∷ words) = command_named (string_bytes name) (map string_bytes words)
 
 -- ---- the files that are read
 
@@ -51,6 +68,7 @@ command _ = None
 abbrev pub source_in : Command → Source
 source_in (show source) = source
 source_in (image source word coordinates) = source
+source_in (classify source word budget) = source
 
 abbrev pub IsReadFrom : Source → List ℕ → Type 0
 IsReadFrom (file name) read = read ≡ name

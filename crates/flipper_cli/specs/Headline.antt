@@ -4,6 +4,9 @@
 -- often the images of these cross it, each taken along by the map and cyclically reduced. All
 -- drawings of a multicurve have the same curves (`ideal_tri::drawing_laws`), so it is one image.
 -- What `show` prints is true of the surface.
+-- Each verdict of `classify` other than unknown has a certificate that holds, and means what it says:
+-- `periodic K` that the K-th power of the word's map is the first that is inner. With `unknown` comes
+-- a true log of what was tried.
 use Rattle.std.specs.Prelude.{◌≡◌, ℕ, List, Option, Some, None, Ok}
 use Rattle.flip_io.specs.Files.{Files}
 use Rattle.ideal_tri.specs.Drawings.{draw}
@@ -12,11 +15,16 @@ use Rattle.tri_atlas.specs.Maps.{IsImageVector, path_map}
 use Rattle.tri_atlas.specs.Moves.{Move}
 use Rattle.surface_lib.specs.Described.{Described}
 use Rattle.surface_lib.specs.Refusals.{moves_kind, reading}
-use Rattle.flipper_cli.specs.Commands.{Command, show, image, source_in}
+use Rattle.cert_text.specs.CertificateLaws.{IsMeant}
+use Rattle.cert_text.specs.Certificates.{Certificate}
+use Rattle.cert_text.specs.Holds.{HoldsFor}
+use Rattle.flipper_cli.specs.Commands.{Command, show, image, classify, source_in}
 use Rattle.flipper_cli.specs.Coordinates.{numbers_in}
 use Rattle.flipper_cli.specs.Line.{line_of}
+use Rattle.flipper_cli.specs.Options.{Budget}
 use Rattle.flipper_cli.specs.Report.{IsFound}
 use Rattle.flipper_cli.specs.Show.{show_lines}
+use Rattle.flipper_cli.specs.Verdicts.{IsVerdict, verdict_lines}
 
 -- the line printed for a multicurve is that of its image under the map of the word's moves
 pub record IsImageLine (d : Described) (word coordinates printed : List ℕ) : Type 0 where
@@ -29,10 +37,22 @@ pub record IsImageLine (d : Described) (word coordinates printed : List ℕ) : T
   pub is_image : IsImageVector d.triangles multicurve (path_map moves) vector
   pub is_printed : printed ≡ line_of vector
 
+-- the lines printed for a word are those of its verdict, and the certificate holds
+pub record IsVerdictLines (d : Described) (word : List ℕ) (budget : Budget) (printed : List ℕ)
+    : Type 0 where
+  pub moves : List Move
+  pub certificate : Certificate
+  pub of_word : reading moves_kind d.generators word ≡ Ok moves
+  pub is_verdict : IsVerdict d.triangles moves budget certificate
+  pub holds : HoldsFor d.triangles moves certificate
+  pub means : IsMeant d.triangles moves certificate
+  pub is_printed : printed ≡ verdict_lines certificate
+
 -- what a command printed about a surface
 abbrev pub IsPrinted : Command → Described → List ℕ → Type 0
 IsPrinted (show source) d printed = printed ≡ show_lines d
 IsPrinted (image source word coordinates) d printed = IsImageLine d word coordinates printed
+IsPrinted (classify source word budget) d printed = IsVerdictLines d word budget printed
 
 -- what the program printed, with status 0, for a command over these files: it is true of the
 -- surface that FILE stands for

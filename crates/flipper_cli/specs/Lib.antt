@@ -9,9 +9,11 @@ pub mod Coordinates
 pub mod ErrorTexts
 pub mod Limits
 pub mod Line
+pub mod Options
 pub mod RefusalCauses
 pub mod RefusalLines
 pub mod Show
+pub mod Verdicts
 -- worked drawings
 pub mod WorkedDrawings
 -- what serves the code alone

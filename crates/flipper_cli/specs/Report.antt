@@ -20,11 +20,15 @@ use Rattle.surface_lib.specs.SurfaceFiles.{IsReadingOf}
 use Rattle.surface_lib.specs.declared.error.WordError.{WordError}
 use Rattle.surface_lib.specs.declared.surface_error.SurfaceError.{SurfaceError}
 use Rattle.flipper_cli.specs.Answers.{Report, printed, refused}
-use Rattle.flipper_cli.specs.Commands.{Command, Source, show, image, file, builtin, source_in}
+use Rattle.cert_text.specs.Certificates.{Certificate}
+use Rattle.flipper_cli.specs.Commands.{Command, Source, show, image, classify, file, builtin}
+use Rattle.flipper_cli.specs.Commands.{source_in}
 use Rattle.flipper_cli.specs.Coordinates.{numbers_in}
 use Rattle.flipper_cli.specs.Line.{line_of}
+use Rattle.flipper_cli.specs.Options.{Budget}
 use Rattle.flipper_cli.specs.RefusalCauses.{for_numbers}
 use Rattle.flipper_cli.specs.Show.{show_lines}
+use Rattle.flipper_cli.specs.Verdicts.{IsVerdict, verdict_lines}
 use Rattle.flipper_cli.specs.declared.coordinates.NumbersError.{NumbersError}
 use Rattle.flipper_cli.specs.declared.refusal.CoordinatesError.TheVariants.{Coords}
 use Rattle.flipper_cli.specs.declared.refusal.Refusal.{Refusal}
@@ -77,6 +81,17 @@ IsWordReport d word coordinates r =
     MatchResult word (λ moves. IsNumbersReport d moves (numbers_in coordinates) r)
     (λ e. r ≡ refused (Word e))
 
+-- ---- `classify`
+
+-- the verdict on the moves of the word, and its certificate
+abbrev pub IsVerdictReport : Described → List Move → Budget → Report → Type 0
+IsVerdictReport d moves budget r =
+    (c : Certificate) × IsVerdict d.triangles moves budget c × (r ≡ printed (verdict_lines c))
+
+abbrev pub IsClassifyReport : Described → Result (List Move) WordError → Budget → Report → Type 0
+IsClassifyReport d word budget r =
+    MatchResult word (λ moves. IsVerdictReport d moves budget r) (λ e. r ≡ refused (Word e))
+
 -- ---- the report of a call
 
 -- the report of a command about this surface
@@ -84,6 +99,8 @@ abbrev pub IsSurfaceReport : Command → Described → Report → Type 0
 IsSurfaceReport (show source) d r = r ≡ printed (show_lines d)
 IsSurfaceReport (image source word coordinates) d r =
     IsWordReport d (reading moves_kind d.generators word) coordinates r
+IsSurfaceReport (classify source word budget) d r =
+    IsClassifyReport d (reading moves_kind d.generators word) budget r
 
 -- the report of these words, read as a command, over these files
 abbrev pub IsReport : Option Command → Files → Report → Type 0

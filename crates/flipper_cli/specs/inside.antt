@@ -4,3 +4,5 @@ pub mod Sources
 pub mod CommandAnswers
 pub mod Places
 pub mod SeenCommand
+pub mod SeenOptions
+pub mod OptionCommand

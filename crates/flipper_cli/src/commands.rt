@@ -1,8 +1,11 @@
 //! The words of the command line.
 ghost use Rattle.std.specs.Prelude.{◌≡◌, MatchOption, Some, None};
+ghost use Rattle.std.specs.Prelude.{map, string_bytes};
 ghost use Rattle.flipper_cli.specs.Commands.{command, show_command, image_command, is_argument};
-ghost use Rattle.flipper_cli.specs.Commands.{source_of};
-ghost use Rattle.flipper_cli.specs.inside.SeenCommand.{seen, seen_source};
+ghost use Rattle.flipper_cli.specs.Commands.{classify_command, source_of};
+ghost use Rattle.flipper_cli.specs.inside.SeenCommand.{seen, seen_source, HasBudget};
+
+use crate::options::fits_options;
 
 /// Where a surface comes from.
 #[derive(Clone, Copy)]
@@ -26,17 +29,26 @@ pub(crate) enum Command<'a> {
         word: &'a str,
         coordinates: &'a str,
     },
+    /// What kind of mapping class a word is, with these options.
+    Classify {
+        source: Source<'a>,
+        word: &'a str,
+        options: &'a [String],
+    },
 }
 
-/// The command that the words fit: `show FILE` or `image FILE WORD COORDS`. None of FILE, WORD and
-/// COORDS begins with `-`. A FILE that begins with `@` names a built-in surface behind it; any other
-/// is a file's name.
+/// The command that the words fit: `show FILE`, `image FILE WORD COORDS`, or `classify FILE WORD` and
+/// options. None of FILE, WORD and COORDS begins with `-`. A FILE that begins with `@` names a
+/// built-in surface behind it; any other is a file's name.
 pub(crate) fn command_of(words: &[String]) -> Option<Command<'_>>
     ensures { MatchOption result (command words.now ≡ None)
-        (λ c. command words.now ≡ Some (seen c)) }
+        (λ c. (command words.now ≡ Some (seen c)) × HasBudget c) }
 {
     match words {
         [name, file] if name.as_str() == "show" => show_command(file.as_str()),
+        [name, file, word, options @ ..] if name.as_str() == "classify" => {
+            classify_command(file.as_str(), word.as_str(), options)
+        }
         [name, file, word, coordinates] if name.as_str() == "image" => {
             image_command(file.as_str(), word.as_str(), coordinates.as_str())
         }
@@ -47,7 +59,7 @@ pub(crate) fn command_of(words: &[String]) -> Option<Command<'_>>
 /// The command `show` with this word behind it, if it may stand there.
 fn show_command(file: &str) -> Option<Command<'_>>
     ensures { MatchOption result (show_command file.now ≡ None)
-        (λ c. show_command file.now ≡ Some (seen c)) }
+        (λ c. (show_command file.now ≡ Some (seen c)) × HasBudget c) }
 {
     if is_argument(file) {
         Some(Command::Show {
@@ -61,13 +73,31 @@ fn show_command(file: &str) -> Option<Command<'_>>
 /// The command `image` with these words behind it, if they may stand there.
 fn image_command<'a>(file: &'a str, word: &'a str, coordinates: &'a str) -> Option<Command<'a>>
     ensures { MatchOption result (image_command file.now word.now coordinates.now ≡ None)
-        (λ c. image_command file.now word.now coordinates.now ≡ Some (seen c)) }
+        (λ c. (image_command file.now word.now coordinates.now ≡ Some (seen c)) × HasBudget c) }
 {
     if is_argument(file) && is_argument(word) && is_argument(coordinates) {
         Some(Command::Image {
             source: source_of(file),
             word,
             coordinates,
+        })
+    } else {
+        None
+    }
+}
+
+/// The command `classify` with these words behind it, if they may stand there.
+fn classify_command<'a>(file: &'a str, word: &'a str, options: &'a [String]) -> Option<Command<'a>>
+    ensures { MatchOption result
+        (classify_command file.now word.now (map string_bytes options.now) ≡ None)
+        (λ c. (classify_command file.now word.now (map string_bytes options.now) ≡ Some (seen c))
+        × HasBudget c) }
+{
+    if is_argument(file) && is_argument(word) && fits_options(options) {
+        Some(Command::Classify {
+            source: source_of(file),
+            word,
+            options,
         })
     } else {
         None
@@ -128,6 +158,33 @@ mod tests {
             ("image -torus r 1", false),
             ("image torus.json -r 1", false),
             ("image torus.json r -1", false),
+            ("classify torus.json r", true),
+            ("classify @torus ", true),
+            ("classify torus.json r --powers 0", true),
+            ("classify torus.json r --powers 1024", true),
+            ("classify torus.json r --powers=1", true),
+            ("classify torus.json r --powers=007", true),
+            ("classify torus.json", false),
+            ("classify torus.json -r", false),
+            ("classify -torus r", false),
+            ("classify torus.json r --powers", false),
+            ("classify torus.json r --powers=", false),
+            ("classify torus.json r --powers ", false),
+            ("classify torus.json r --powers 1025", false),
+            ("classify torus.json r --powers=1025", false),
+            ("classify torus.json r --powers 000001", false),
+            ("classify torus.json r --powers -1", false),
+            ("classify torus.json r --powers 1x", false),
+            ("classify torus.json r --powers 1 --powers 1", false),
+            ("classify torus.json r --powers=1 --powers=1", false),
+            ("classify torus.json --powers 1 r", false),
+            ("classify --powers 1 torus.json r", false),
+            ("classify torus.json r -p 1", false),
+            ("classify torus.json r --power 1", false),
+            ("classify torus.json r --Powers 1", false),
+            ("classify torus.json r --", false),
+            ("classify torus.json r -- --powers 1", false),
+            ("classify torus.json r s", false),
             ("", false),
         ] {
             let words = words_of(rt.alloc(), line)?;

@@ -66,7 +66,7 @@ fn is_number(field: &str) -> bool
 }
 
 /// Whether the text has digits alone.
-fn are_digits(text: &str) -> bool
+pub(crate) fn are_digits(text: &str) -> bool
     ensures { result ≡ all_ascii_digits text.now }
 {
     text.as_bytes().iter().all(|c| is_digit(*c))

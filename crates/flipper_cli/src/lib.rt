@@ -1,9 +1,10 @@
 //! The program's work: from a call's words to its report.
 //!
 //! `run` is the program's top call. Its contract is the project's claim, read in `specs/` in this
-//! order: `Commands` (what the words ask for), `Coordinates` (the numbers of a vector), `Report`
-//! (which status and which bytes a call answers), `Headline` (what the printed vector means) and
-//! `Run` (the causes of all other answers, which files are read, and what the sinks took). What a
+//! order: `Commands` and `Options` (what the words ask for), `Coordinates` (the numbers of a vector),
+//! `Verdicts` (the verdict on a word), `Report` (which status and which bytes a call answers),
+//! `Headline` (what the printed vector and the verdict mean) and `Run` (the causes of all other
+//! answers, which files are read, and what the sinks took). What a
 //! surface file and a word are is defined in `surface_lib`. `WorkedDrawings` shows at three vectors
 //! what the headline speaks of.
 //!
@@ -14,17 +15,19 @@
 //! ```
 //!
 //! Below it, `settled` makes the line of a refusal, and `work` goes from the words and the shelf to
-//! the bytes that are printed: `commands` and `coordinates` read the words, `source` finds the
-//! surface, `show` and `image` are the commands, `line` the line of a vector; `answers` and `refusal`
-//! are the statuses and the refusals with their lines.
+//! the bytes that are printed: `commands`, `coordinates` and `options` read the words, `source` finds
+//! the surface, `show`, `image` and `classify` are the commands, `line` the line of a vector; `answers`
+//! and `refusal` are the statuses and the refusals with their lines.
 #![tactic(auto)]
 
 mod answers;
+mod classify;
 mod commands;
 mod coordinates;
 mod drawings;
 mod image;
 mod line;
+mod options;
 mod program;
 mod refusal;
 mod settled;

@@ -81,7 +81,7 @@ fn shelf(alloc: Global, fails: u64) -> Result<BoxShelf, AllocError> {
 /// A sink with room. It takes a byte a call, and fails at the call with this number.
 fn sink(alloc: Global, fails: u64) -> Result<VecSink, AllocError> {
     Ok(VecSink {
-        bytes: Vec::with_capacity(alloc, 99)?,
+        bytes: Vec::with_capacity(alloc, 250)?,
         calls: 0,
         fails: vec![in alloc; fails]?,
         faults: 0,
@@ -114,7 +114,7 @@ fn check(
 }
 
 /// Rows of calls that read a file that is there.
-const READING: [Row; 14] = [
+const READING: [Row; 17] = [
     (
         &["image", "sphere3.json", "r", "2,1,1"],
         Status::Done,
@@ -164,6 +164,24 @@ const READING: [Row; 14] = [
         "",
     ),
     (
+        &["classify", "sphere3.json", "r"],
+        Status::Done,
+        "periodic 3\n{\"kind\":\"periodic\",\"order\":3,\"paths\":[[],[]],\"reasons\":[[1,-1],[1,-1]]}\n",
+        "",
+    ),
+    (
+        &["classify", "pair.json", "w", "--powers=2"],
+        Status::Done,
+        "periodic 2\n{\"kind\":\"periodic\",\"order\":2,\"paths\":[[],[],[],[]],\"reasons\":[[1,-1]]}\n",
+        "",
+    ),
+    (
+        &["classify", "sphere3.json", "r.q", "--powers", "1"],
+        Status::InputRefused,
+        "",
+        "error: word UnknownName 1\n",
+    ),
+    (
         &["image", "brackets.json", "r", "2,1,1"],
         Status::InputRefused,
         "",
@@ -207,7 +225,7 @@ const READING: [Row; 14] = [
 ];
 
 /// Rows of calls that read no file that is there.
-const ROWS: [Row; 9] = [
+const ROWS: [Row; 16] = [
     (&[], Status::WordsRefused, "", "error: usage\n"),
     (&["image"], Status::WordsRefused, "", "error: usage\n"),
     (
@@ -239,6 +257,48 @@ const ROWS: [Row; 9] = [
         Status::Done,
         "name S_1_1\nedges 3\ntriangles 2\nvertices 1\ngenus 1\ngenerators a b\n",
         "",
+    ),
+    (
+        &["classify", "@S_1_1", "a.B"],
+        Status::Done,
+        "periodic 6\n{\"kind\":\"periodic\",\"order\":6,\"paths\":[[],[]],\"reasons\":[[1,-1],[1,-1],[1,-1],[1,-1],[1,-1]]}\n",
+        "",
+    ),
+    (
+        &["classify", "@S_1_1", ""],
+        Status::Done,
+        "periodic 1\n{\"kind\":\"periodic\",\"order\":1,\"paths\":[[],[]],\"reasons\":[]}\n",
+        "",
+    ),
+    (
+        &["classify", "@S_1_1", "a.b", "--powers", "1"],
+        Status::Done,
+        "unknown\n{\"capped\":null,\"curves\":[],\"kind\":\"unknown\",\"powers\":[[1,-1]],\"tracks\":[]}\n",
+        "",
+    ),
+    (
+        &["classify", "@S_1_1", "a.B", "--powers=0000"],
+        Status::Done,
+        "unknown\n{\"capped\":null,\"curves\":[],\"kind\":\"unknown\",\"powers\":[],\"tracks\":[]}\n",
+        "",
+    ),
+    (
+        &["classify", "@S_1_1", "a", "--powers", "2000"],
+        Status::WordsRefused,
+        "",
+        "error: usage\n",
+    ),
+    (
+        &["classify", "absent.json", "a", "--powers", "2"],
+        Status::ShelfFault(ShelfFault::Absent),
+        "",
+        "error: shelf Absent\n",
+    ),
+    (
+        &["classify", "@S_1_2", "a"],
+        Status::InputRefused,
+        "",
+        "error: surface UnknownBuiltin\n",
     ),
     (
         &["show", "@S_1_2"],
@@ -334,11 +394,11 @@ fn check_sure(
     let (texts, status, printed, said) = row;
     let words = words_of(alloc, texts)?;
     let mut out = SureSink {
-        bytes: Vec::with_capacity(alloc, 99)?,
+        bytes: Vec::with_capacity(alloc, 250)?,
         dropped: false,
     };
     let mut err = SureSink {
-        bytes: Vec::with_capacity(alloc, 99)?,
+        bytes: Vec::with_capacity(alloc, 250)?,
         dropped: false,
     };
     let answer = run_surely(alloc, words.as_slice(), shelf, &mut out, &mut err);

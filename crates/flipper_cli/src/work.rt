@@ -9,11 +9,12 @@ ghost use Rattle.flipper_cli.specs.Commands.{IsReadBy, command, source_in};
 ghost use Rattle.flipper_cli.specs.Headline.{IsHeadline, IsPrinted};
 ghost use Rattle.flipper_cli.specs.Report.{IsSurfaceReport};
 ghost use Rattle.flipper_cli.specs.Run.{IsAnswer, IsLacking, IsOver, ReadRaised, shown};
-ghost use Rattle.flipper_cli.specs.inside.SeenCommand.{seen, seen_source};
+ghost use Rattle.flipper_cli.specs.inside.SeenCommand.{seen, seen_source, HasBudget};
 ghost use Rattle.flipper_cli.specs.inside.AboutSurfaces.{IsAboutSurface};
 ghost use Rattle.flipper_cli.specs.inside.CommandAnswers.{IsCommandAnswer};
 ghost use Rattle.flipper_cli.specs.inside.Sources.{LacksSource, ReadOfSourceRaised};
 
+use crate::classify::classify;
 use crate::commands::{Command, Source, command_of};
 use crate::image::image;
 use crate::refusal::Refusal;
@@ -29,13 +30,14 @@ fn source_of(command: Command<'_>) -> Source<'_>
 {
     match command {
         Command::Show { source } => source,
-        Command::Image { source, .. } => source,
+        Command::Image { source, .. } | Command::Classify { source, .. } => source,
     }
 }
 
 /// What a command prints about its surface.
 fn about(alloc: Global, s: &Surface, command: Command) -> Result<Vec<u8>, Refusal>
-    requires { IsSurface s.now }
+    requires surface { IsSurface s.now }
+    requires budget { HasBudget command }
     ensures report { IsSurfaceReport (seen command.entry) (described s.now) (shown result)
         ⊎ (result ≡ Err Refusal.Memory) }
     ensures printed { IfOk result (λ bytes.
@@ -49,11 +51,13 @@ fn about(alloc: Global, s: &Surface, command: Command) -> Result<Vec<u8>, Refusa
             coordinates,
             ..
         } => image(alloc, s, word, coordinates),
+        Command::Classify { word, options, .. } => classify(alloc, s, word, options),
     }
 }
 
 /// What a command prints.
 fn answer<S: Shelf>(alloc: Global, shelf: &mut S, command: Command) -> Result<Vec<u8>, Refusal>
+    requires { HasBudget command }
     ensures report { (files : Files)
         → (S.told shelf.old ≡ Some files) ⊎ ((name : List ℕ) → ¬ IsReadBy (Some (seen command.entry)) name)
         → IsCommandAnswer (seen command.entry) files (shown result) }

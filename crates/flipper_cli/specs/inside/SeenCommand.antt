@@ -1,8 +1,10 @@
 -- The source and the command that the code reads, as the definitions see them.
-use Rattle.flipper_cli.specs.Commands.{file, builtin, show, image}
+use Rattle.std.specs.Prelude.{◌≡◌, List, ℕ, Some, map, string_bytes, unwrap_or}
+use Rattle.flipper_cli.specs.Commands.{file, builtin, show, image, classify}
 use Rattle.flipper_cli.specs.Commands.{Source as SourceOfWords, Command as CommandOfWords}
+use Rattle.flipper_cli.specs.Options.{Budget, budget_of}
 use Rattle.flipper_cli.specs.declared.commands.Command.{Command}
-use Rattle.flipper_cli.specs.declared.commands.Command.TheVariants.{Show, Image}
+use Rattle.flipper_cli.specs.declared.commands.Command.TheVariants.{Show, Image, Classify}
 use Rattle.flipper_cli.specs.declared.commands.Source.{Source}
 use Rattle.flipper_cli.specs.declared.commands.Source.TheVariants.{File, Builtin}
 
@@ -10,6 +12,18 @@ abbrev pub seen_source : Source → SourceOfWords
 seen_source (File name) = file name.now
 seen_source (Builtin name) = builtin name.now
 
+-- the budget of options that fit
+abbrev pub budget_given : List (List ℕ) → Budget
+budget_given options = unwrap_or (budget_of options) (record { powers = 0 })
+
 abbrev pub seen : Command → CommandOfWords
 seen (Show source) = show (seen_source source)
 seen (Image source word coordinates) = image (seen_source source) word.now coordinates.now
+seen (Classify source word options) =
+    classify (seen_source source) word.now (budget_given (map string_bytes options.now))
+
+-- its options, if there are any, fit
+abbrev pub HasBudget : Command → Type 0
+HasBudget (Classify source word options) =
+    budget_of (map string_bytes options.now) ≡ Some (budget_given (map string_bytes options.now))
+HasBudget _ = Unit {0}

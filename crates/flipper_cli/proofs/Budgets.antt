@@ -1,0 +1,55 @@
+-- The budget of options that fit.
+use Rattle.std.proofs.Common.{◌≡◌, ◌≤◌, ◌∙◌, sym, subst, ap, refl, ℕ, List, [], ◌∷◌, true, false, Option, Some, None, codes}
+use Rattle.std.proofs.Common.{is_some, unwrap_or, inl, inr, arith}
+use Rattle.std.specs.Option.{option_map_or}
+use Rattle.std.specs.Str.{bytes_eq}
+use Rattle.std.specs.Str.Parse.{digits_value}
+use Rattle.std.proofs.lemmas.Bool.{and_parts, cases_Bool, leb-true}
+use Rattle.flipper_cli.specs.Options.{Budget, Setting, are_fitting, budget_in, budget_of, is_number_up_to}
+use Rattle.flipper_cli.specs.Options.{is_short_number, limit_of, number_of}
+use Rattle.flipper_cli.specs.Commands.{Source, classify, classify_command, is_argument, source_of}
+use Rattle.flipper_cli.specs.inside.SeenCommand.{budget_given}
+use Rattle.flipper_cli.proofs.Settings.{budget_by, fits_by, fits_first}
+
+-- ---- how many powers
+
+within : (limit : Option ℕ) (most : ℕ) (text : List ℕ) → limit ≡ Some most
+    → option_map_or (λ m. is_number_up_to m text) limit false ≡ true → digits_value 10 text ≤ most
+within limit most text is fits = leb-true (digits_value 10 text) most (and_parts (is_short_number text) _ (rw is at fits)).1
+
+powers_small : (all : List Setting) → are_fitting all ≡ true → number_of (codes "powers") 48 all ≤ 1024
+powers_small [] fits = omega arith
+powers_small (setting ∷ others) fits =
+    let first = fits_first setting others fits in
+    elim (cases_Bool (bytes_eq setting.name (codes "powers"))) [
+      | inl same ↦ rw same (within (limit_of setting.name) 1024 setting.number (rw same refl) first.fits)
+      | inr other ↦ rw other (powers_small others first.rest)
+    ]
+
+-- the budget of words that fit tries few powers
+pub budget_small : (words : List (List ℕ)) (b : Budget) → budget_of words ≡ Some b → b.powers ≤ 1024
+budget_small words b is =
+    let fits = fits_by words (ap is_some is) in
+    let same : b ≡ budget_in fits.0 = ap (λ (o : Option Budget). unwrap_or o b) (sym is ∙ budget_by words fits.0 fits.1) in
+    subst (λ (x : Budget). x.powers ≤ 1024) (sym same) (powers_small fits.0 fits.1.fits)
+
+-- ---- the budget that the code sees
+
+given : (o : Option Budget) (b : Budget) → is_some o ≡ true → o ≡ Some (unwrap_or o b)
+given None b some = absurd (cc)
+given (Some x) b some = refl
+
+pub budget_is_given : (options : List (List ℕ)) → is_some (budget_of options) ≡ true
+    → budget_of options ≡ Some (budget_given options)
+budget_is_given options some = given (budget_of options) _ some
+
+-- FILE, WORD and options that may stand there
+pub classify_fits : (file word : List ℕ) (options : List (List ℕ)) (source : Source) → is_argument file ≡ true
+    → is_argument word ≡ true → is_some (budget_of options) ≡ true → source ≡ source_of file
+    → (classify_command file word options ≡ Some (classify source word (budget_given options)))
+    × (budget_of options ≡ Some (budget_given options))
+classify_fits file word options source is_file is_word some is_source =
+    let is = budget_is_given options some in
+    let asked : classify_command file word options ≡ Some (classify source word (budget_given options)) =
+    rw (is_file, is_word, is, is_source) refl in
+    (asked, is)
