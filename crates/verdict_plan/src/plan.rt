@@ -1,0 +1,85 @@
+//! The phases of the search for a verdict, one after another.
+ghost use Rattle.std.specs.Prelude.{◌≡◌, IfOk, IfSome};
+ghost use Rattle.tri_atlas.specs.Arena.{triangulation};
+ghost use Rattle.tri_atlas.specs.Paths.{moves_of};
+ghost use Rattle.surface_lib.specs.Surfaces.{IsSurface, IsLoop};
+ghost use Rattle.cert_text.specs.CertificateLaws.{IsMeant};
+ghost use Rattle.cert_text.specs.Certificates.{seen};
+ghost use Rattle.cert_text.specs.Holds.{HoldsFor};
+ghost use Rattle.verdict_plan.specs.Budgets.{IsWithinLimits};
+ghost use Rattle.verdict_plan.specs.Verdicts.{HasNoOrder, IsVerdict};
+ghost use Rattle.verdict_plan.specs.inside.Tried.{IsPowerLog, IsSound};
+
+use crate::budget::Budget;
+use crate::certificates::{reducible, unknown};
+use crate::power_phase::{PowerLog, Powers, follow_powers, try_powers};
+use cert_text::{Certificate, certificate_laws};
+use ideal_tri::Memory;
+use multicurve_cert::{Curves, search};
+use std::alloc::Global;
+use surface_lib::Surface;
+use tri_atlas::{Atlas, Path, atlas_laws, vector_laws};
+
+/// The verdict on a path of a surface from the base to the base, within the budget, as its
+/// certificate: the powers are tried first, then the candidates for a multicurve that the path fixes.
+/// The surface is as it was; later searches may add triangulations to its atlas.
+pub fn classify(
+    alloc: Global,
+    s: &mut Surface,
+    word: &Path,
+    budget: &Budget,
+) -> Result<Certificate, Memory>
+    requires surface { IsSurface s.old }
+    requires closed { IsLoop s.old.atlas word.now }
+    requires budget { IsWithinLimits budget.now }
+    ensures verdict { IfOk result (λ c. IsVerdict (triangulation s.old.atlas 0)
+        (moves_of s.old.atlas word.now) budget.now (seen c)) }
+    ensures holds { IfOk result (λ c. HoldsFor (triangulation s.old.atlas 0)
+        (moves_of s.old.atlas word.now) (seen c)) }
+    ensures means { IfOk result (λ c. IsMeant (triangulation s.old.atlas 0)
+        (moves_of s.old.atlas word.now) (seen c)) }
+    ensures kept { s.new ≡ s.old }
+{
+    match try_powers(alloc, &s.atlas, word, budget)? {
+        Some(Powers::Verdict(c)) => Ok(c),
+        Some(Powers::Log(log)) => try_curves(alloc, &s.atlas, word, budget, Some(log)),
+        None => try_curves(alloc, &s.atlas, word, budget, None),
+    }
+}
+
+/// What the candidates for a fixed multicurve give, where the powers gave no verdict. The log of the
+/// powers is made here where it is needed and wasn't made before.
+fn try_curves(
+    alloc: Global,
+    atlas: &Atlas,
+    word: &Path,
+    budget: &Budget,
+    log: Option<PowerLog>,
+) -> Result<Certificate, Memory>
+    requires closed { IsLoop atlas.now word.now }
+    requires budget { IsWithinLimits budget.now }
+    requires no_order { HasNoOrder (triangulation atlas.now 0) (moves_of atlas.now word.now)
+        budget.now.powers }
+    requires log { IfSome log (IsPowerLog (triangulation atlas.now 0)
+        (moves_of atlas.now word.now) budget.now.powers) }
+    ensures { IfOk result (IsSound (triangulation atlas.now 0) (moves_of atlas.now word.now)
+        budget.now) }
+{
+    let _ = atlas.base();
+    atlas_laws();
+    certificate_laws();
+    vector_laws();
+    match search(alloc, atlas, word, budget.curves)? {
+        Curves::Found { coords, .. } => reducible(alloc, &coords),
+        Curves::None { log: curves } => {
+            let powers = match log {
+                Some(log) => Powers::Log(log),
+                None => follow_powers(alloc, atlas, word, budget)?,
+            };
+            match powers {
+                Powers::Verdict(c) => Ok(c),
+                Powers::Log(log) => unknown(alloc, &log.reasons, log.capped, curves),
+            }
+        }
+    }
+}
