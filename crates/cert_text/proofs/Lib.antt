@@ -1,3 +1,4 @@
 pub mod Lists
 pub mod Floats
+pub mod FixedVectors
 pub mod Meanings

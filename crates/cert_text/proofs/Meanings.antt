@@ -1,9 +1,12 @@
--- A certificate of a periodic word holds only where the word is periodic of its order: its walks show
--- that the power is inner, and the reason at place j - 1 is a closed walk that power j moves, so that
--- no smaller power is.
+-- What certificates mean that hold. A periodic word's walks show that the power is inner, and the
+-- reason at place j - 1 is a closed walk that power j moves, so that no smaller power is. A reducible
+-- word's multicurve has a drawing, and of each drawing the certificate says what is meant.
 use Rattle.std.proofs.Common.{◌<◌, ℕ, zero, suc, ℤ, List, [], length, slice_index_or, subst, arith}
 use Rattle.std.specs.List.{repeat}
 use Rattle.std.proofs.Math.Numerals.{add-one}
+use Rattle.ideal_tri.specs.DrawingLaws.{DrawingLaws}
+use Rattle.ideal_tri.specs.Drawings.{draw}
+use Rattle.ideal_tri.specs.Strands.{IsDrawing}
 use Rattle.ideal_tri.specs.Triangulations.{IsTriangulation}
 use Rattle.tri_atlas.specs.Maps.{path_map}
 use Rattle.tri_atlas.specs.Moves.{Move}
@@ -11,9 +14,9 @@ use Rattle.free_groupoid.specs.Inner.{IsKept}
 use Rattle.free_groupoid.specs.InnerLaws.{IsReducedLoop}
 use Rattle.free_groupoid.specs.Periodic.{IsPeriodic}
 use Rattle.free_groupoid.specs.PeriodicLaws.{PeriodicLaws}
-use Rattle.cert_text.specs.Certificates.{Certificate, periodic, unknown}
-use Rattle.cert_text.specs.CertificateLaws.{IsMeant}
-use Rattle.cert_text.specs.Holds.{IsPeriodicCertificate, HoldsFor}
+use Rattle.cert_text.specs.Certificates.{Certificate, periodic, reducible, unknown}
+use Rattle.cert_text.specs.CertificateLaws.{IsFixedMulticurve, IsMeant}
+use Rattle.cert_text.specs.Holds.{IsPeriodicCertificate, IsReducibleCertificate, HoldsFor}
 
 -- each smaller power moves its reason
 refuted : (triples : List (List ℤ)) (moves : List Move) (order : ℕ) (paths reasons : List (List ℤ)) (j : ℕ)
@@ -35,8 +38,20 @@ least_power laws triples moves order paths reasons sound h =
     laws.least triples moves order sound h.positive ((λ t. slice_index_or paths t []), h.inner.inner)
     (λ j some smaller. refuted triples moves order paths reasons j h some smaller)
 
-pub meaning : (laws : PeriodicLaws) (triples : List (List ℤ)) (moves : List Move) (c : Certificate)
+fixed_multicurve : (triples : List (List ℤ)) (moves : List Move) (coords : List ℕ) → DrawingLaws triples
+    → IsReducibleCertificate triples moves coords → IsFixedMulticurve triples moves coords
+fixed_multicurve triples moves coords drawings h =
+    let drawn : IsDrawing triples coords (draw triples coords) = drawings.exists coords h.multicurve in record {
+      drawn = drawn;
+      nonperipheral = h.nonperipheral (draw triples coords) drawn;
+      fixed = h.fixed (draw triples coords) drawn;
+    }
+
+pub meaning : (laws : PeriodicLaws) → ((triples : List (List ℤ)) → IsTriangulation triples → DrawingLaws triples)
+    → (triples : List (List ℤ)) (moves : List Move) (c : Certificate)
     → IsTriangulation triples → HoldsFor triples moves c → IsMeant triples moves c
-meaning laws triples moves (periodic order paths reasons) sound h =
+meaning laws drawings triples moves (periodic order paths reasons) sound h =
     least_power laws triples moves order paths reasons sound h
-meaning laws triples moves (unknown powers capped curves tracks) sound h = tt
+meaning laws drawings triples moves (reducible coords) sound h =
+    fixed_multicurve triples moves coords (drawings triples sound) h
+meaning laws drawings triples moves (unknown powers capped curves tracks) sound h = tt

@@ -6,7 +6,7 @@ use Rattle.serde_json.specs.Data.{Items, no_items, item, Members, no_members, me
 use Rattle.serde_json.specs.Written.{compact_text}
 use Rattle.edge_coords.specs.declared.lines.CurveLine.{CurveLine}
 use Rattle.edge_coords.specs.declared.lines.CurveLine.TheVariants as curve
-use Rattle.cert_text.specs.Certificates.{Certificate, periodic, unknown}
+use Rattle.cert_text.specs.Certificates.{Certificate, periodic, reducible, unknown}
 use Rattle.cert_text.specs.declared.lines.TrackLine.{TrackLine}
 use Rattle.cert_text.specs.declared.lines.TrackLine.TheVariants as track
 
@@ -54,6 +54,10 @@ walks_data walks = array (list_of (map walk_data walks))
 abbrev pub lines_data : List (List ℕ) → Data
 lines_data lines = array (list_of (map string lines))
 
+-- coordinates are texts of decimal digits
+abbrev pub coords_data : List ℕ → Data
+coords_data coords = array (list_of (map (λ n. string (decimal n)) coords))
+
 -- null, or a list of the power and the letters
 abbrev pub capped_data : Option (ℕ × ℕ) → Data
 capped_data None = null
@@ -73,6 +77,12 @@ certificate_data (periodic order paths reasons) =
     ∷ (codes "order", natural order)
     ∷ (codes "paths", walks_data paths)
     ∷ (codes "reasons", walks_data reasons)
+    ∷ []))
+certificate_data (reducible coords) =
+    object
+    (members_of
+    ((codes "coords", coords_data coords)
+    ∷ (codes "kind", string (codes "reducible"))
     ∷ []))
 certificate_data (unknown powers capped curves tracks) =
     object

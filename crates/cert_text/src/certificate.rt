@@ -19,6 +19,12 @@ pub enum Certificate {
         /// letter.
         reasons: Vec<Vec<i32>>,
     },
+    /// The word is reducible: it fixes a multicurve that isn't empty, none of whose curves runs round
+    /// a vertex (Farb and Margalit, chapter 13).
+    Reducible {
+        /// The coordinates of the multicurve, one for each edge of the base, below 2^126.
+        coords: Vec<u128>,
+    },
     /// There is no verdict within the budget.
     Unknown {
         /// For each power that was refuted, from the first, a closed walk that it moves.

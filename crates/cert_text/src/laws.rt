@@ -2,11 +2,17 @@
 ghost use Rattle.cert_text.specs.CertificateLaws.{CertificateLaws};
 
 use free_groupoid::periodic_laws;
+use ideal_tri::{corner_laws, drawing_laws};
+use tri_atlas::vector_laws;
 
-/// What is proved of certificates: that one which holds means what its verdict says. It does
-/// nothing: a caller learns the laws.
+/// What is proved of certificates: that one which holds means what its verdict says, and that a
+/// reducible word's holds exactly where its numbers say so. It does nothing: a caller learns the
+/// laws.
 pub fn certificate_laws()
     ensures { CertificateLaws }
 {
     periodic_laws();
+    drawing_laws();
+    corner_laws();
+    vector_laws();
 }

@@ -2,9 +2,11 @@
 //!
 //! Each verdict on a word but `unknown` has a certificate that anyone can check again, by machine or
 //! by hand. A periodic word's has the walks by which its power is inner, and for each smaller power
-//! a closed walk that it moves. Where there is no verdict, the certificate is a log of what was
+//! a closed walk that it moves. A reducible word's has the coordinates of a multicurve that it fixes,
+//! with no curve round a vertex. Where there is no verdict, the certificate is a log of what was
 //! tried. This layer promises that the text that `write` makes is that of the certificate, and that
-//! a certificate which holds means what its verdict says.
+//! a certificate which holds means what its verdict says. A reducible word's holds exactly where its
+//! numbers pass a test that can be made move by move.
 //!
 //! The definitions stand in `specs/`: `Certificates` (what one says), `Holds` (when it holds, kind
 //! by kind), `CertificateLaws` (what that means) and `Texts`.
@@ -12,6 +14,8 @@
 //! ```text
 //! let c = Certificate::Periodic { order: 2, paths, reasons };
 //! write(alloc, &c)?; // {"kind":"periodic","order":2,"paths":[[],[]],"reasons":[[1,-1]]}
+//! let c = Certificate::Reducible { coords }; // of 1, 1 and 0
+//! write(alloc, &c)?; // {"coords":["1","1","0"],"kind":"reducible"}
 //! ```
 #![tactic(auto)]
 

@@ -27,6 +27,12 @@ fn periodic(
     })
 }
 
+fn reducible(alloc: Global, coords: &[u128]) -> Result<Certificate, Memory> {
+    Ok(Certificate::Reducible {
+        coords: Vec::from_slice(alloc, coords)?,
+    })
+}
+
 fn unknown(
     alloc: Global,
     powers: &[&[i32]],
@@ -73,6 +79,18 @@ fn texts(rt: HostRuntime) -> Result<(), Fail> {
         (
             periodic(alloc, 1024, &[&[i32::MAX, i32::MIN], &[0]], &[])?,
             r#"{"kind":"periodic","order":1024,"paths":[[2147483647,-2147483648],[0]],"reasons":[]}"#,
+        ),
+        (
+            reducible(alloc, &[1, 1, 0])?,
+            r#"{"coords":["1","1","0"],"kind":"reducible"}"#,
+        ),
+        (
+            reducible(alloc, &[(1 << 126) - 1, 10])?,
+            r#"{"coords":["85070591730234615865843651857942052863","10"],"kind":"reducible"}"#,
+        ),
+        (
+            reducible(alloc, &[])?,
+            r#"{"coords":[],"kind":"reducible"}"#,
         ),
         (
             unknown(alloc, &[&[1, -1]], Some((12, 351363)), &CURVES, &TRACKS)?,

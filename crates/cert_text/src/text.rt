@@ -1,9 +1,10 @@
 //! The text of a certificate.
-ghost use Rattle.std.specs.Prelude.{◌≡◌, map, codes, IfOk};
+ghost use Rattle.std.specs.Prelude.{◌≡◌, map, codes, string_bytes, IfOk};
+ghost use Rattle.std.specs.Fmt.{decimal};
 ghost use Rattle.serde_json.specs.Data.{string, object, member, no_members};
 ghost use Rattle.serde_json.specs.View.{view};
 ghost use Rattle.cert_text.specs.Certificates.{seen, walks_of};
-ghost use Rattle.cert_text.specs.Texts.{capped_data, certificate_data, certificate_text};
+ghost use Rattle.cert_text.specs.Texts.{capped_data, certificate_data, certificate_text, coords_data};
 ghost use Rattle.cert_text.specs.Texts.{curve_text, lines_data, natural, track_text, walk_data, walks_data};
 
 use crate::certificate::Certificate;
@@ -35,6 +36,10 @@ fn value_of(alloc: Global, c: &Certificate) -> Result<Value, Memory>
             let reasons = walks_value(alloc, reasons)?;
             Ok(periodic_value(alloc, *order, paths, reasons)?)
         }
+        Certificate::Reducible { coords } => {
+            let coords = coords_value(alloc, coords)?;
+            Ok(reducible_value(alloc, coords)?)
+        }
         Certificate::Unknown {
             powers,
             capped,
@@ -64,6 +69,15 @@ fn periodic_value(
         (member (codes "reasons") (view reasons) no_members))))) }
 {
     json!(in alloc; {"kind": "periodic", "order": order, "paths": paths, "reasons": reasons})
+}
+
+/// The object of a reducible word.
+fn reducible_value(alloc: Global, coords: Value) -> Result<Value, AllocError>
+    ensures { IfOk result (λ v. view v
+        ≡ object (member (codes "coords") (view coords)
+        (member (codes "kind") (string (codes "reducible")) no_members))) }
+{
+    json!(in alloc; {"coords": coords, "kind": "reducible"})
 }
 
 /// The object of a word without a verdict.
@@ -106,6 +120,25 @@ fn walk_value(alloc: Global, letters: &[i32]) -> Result<Value, Memory>
         list.push(Value::from(*letter))?;
     }
     Ok(Value::from(list))
+}
+
+/// The list of the texts of coordinates. They aren't numbers of JSON, since many readers hold none
+/// above 2^53 exactly.
+fn coords_value(alloc: Global, coords: &[u128]) -> Result<Value, Memory>
+    ensures { IfOk result (λ v. view v ≡ coords_data coords.now) }
+{
+    let mut list = Vec::new(alloc);
+    for n in coords {
+        list.push(Value::from(digits(alloc, *n)?))?;
+    }
+    Ok(Value::from(list))
+}
+
+/// The decimal digits of a number.
+fn digits(alloc: Global, n: u128) -> Result<String, Memory>
+    ensures { IfOk result (λ text. string_bytes text ≡ decimal n) }
+{
+    Ok(format!(in alloc; "{n}")?)
 }
 
 /// Null, or the list of the power and the letters.
