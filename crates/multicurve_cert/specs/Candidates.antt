@@ -29,6 +29,11 @@ image_vector triples moves w =
 abbrev pub image_number : List (List ℤ) → List Move → List ℕ → ℕ → List ℕ
 image_number triples moves w n = image_vector triples (repeat n moves) w
 
+-- on the way to the image under the n-th power some number reaches the limit
+abbrev pub Overflows : List (List ℤ) → List Move → List ℕ → ℕ → Type 0
+Overflows triples moves w n =
+    (k : ℕ) × OverflowsAt COORDINATE_LIMIT triples w (repeat n moves) k
+
 -- ---- kinds
 
 -- a candidate's number, of so many cycles: the cycle, and how its images are put together
@@ -72,7 +77,7 @@ candidate triples moves w kind = stripped triples (put_together triples moves w 
 -- an image that is needed, or the sum, reaches the limit
 abbrev pub IsTooLarge : List (List ℤ) → List Move → List ℕ → ℕ → Type 0
 IsTooLarge triples moves w kind =
-    ((k : ℕ) × OverflowsAt COORDINATE_LIMIT triples w (repeat (needed kind) moves) k)
+    Overflows triples moves w (needed kind)
     ⊎ ((is_sum kind ≡ true) × ((e : ℕ) × (e < length w)
     × (COORDINATE_LIMIT ≤ slice_index (sum_to triples moves w kind) e)))
 

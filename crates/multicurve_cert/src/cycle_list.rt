@@ -1,5 +1,10 @@
 //! The short cycles of the dual graph.
-ghost use Rattle.std.specs.Prelude.{◌<◌, ℤ, List, length, IfOk};
+ghost use Rattle.std.specs.Prelude.{◌≡◌, ◌<◌, ℤ, List, length, IfOk};
+ghost use Rattle.tri_atlas.specs.Arena.{triangulation};
+ghost use Rattle.edge_coords.specs.Coordinates.{AreCoordinatesIn};
+ghost use Rattle.multicurve_cert.specs.Cycles.{IsCycle, cycle_vector};
+use edge_coords::Coords;
+use tri_atlas::Atlas;
 ghost use Rattle.multicurve_cert.specs.Cycles.{AreCycleWalks};
 
 use free_groupoid::Walk;
@@ -17,3 +22,9 @@ pub fn cycles(alloc: Global, tri: &Tri) -> Result<Vec<Walk>, Memory>
 {
     Err(Memory)
 }
+
+pub fn cycle_coords(atlas: &Atlas, cycle: &Walk) -> Result<Coords, Memory>
+    requires { IsCycle (triangulation atlas.now 0) cycle.now.letters }
+    ensures value { IfOk result (λ c. c ≡ record { tri = 0; numbers = cycle_vector (triangulation atlas.now 0) cycle.now.letters }) }
+    ensures here { IfOk result (λ c. AreCoordinatesIn atlas.now c) }
+{ Err(Memory) }

@@ -21,7 +21,10 @@
 #![tactic(auto)]
 
 mod curve_search;
+mod cycle_law;
 mod cycle_list;
+mod power_law;
 
 pub use curve_search::{Curves, search};
-pub use cycle_list::cycles;
+pub use cycle_list::{cycle_coords, cycles};
+pub use power_law::power_laws;

@@ -15,10 +15,10 @@ use crate::certificates::{reducible, unknown};
 use crate::power_phase::{PowerLog, Powers, follow_powers, try_powers};
 use cert_text::{Certificate, certificate_laws};
 use ideal_tri::Memory;
-use multicurve_cert::{Curves, search};
+use multicurve_cert::{Curves, power_laws, search};
 use std::alloc::Global;
 use surface_lib::Surface;
-use tri_atlas::{Atlas, Path, atlas_laws, vector_laws};
+use tri_atlas::{Atlas, Path};
 
 /// The verdict on a path of a surface from the base to the base, within the budget, as its
 /// certificate: the powers are tried first, then the candidates for a multicurve that the path fixes.
@@ -66,11 +66,10 @@ fn try_curves(
         budget.now) }
 {
     let _ = atlas.base();
-    atlas_laws();
     certificate_laws();
-    vector_laws();
+    power_laws(atlas, word);
     match search(alloc, atlas, word, budget.curves)? {
-        Curves::Found { coords, .. } => reducible(alloc, &coords),
+        Curves::Found { coords, .. } => Ok(reducible(alloc, &coords)?),
         Curves::None { log: curves } => {
             let powers = match log {
                 Some(log) => Powers::Log(log),
@@ -78,7 +77,7 @@ fn try_curves(
             };
             match powers {
                 Powers::Verdict(c) => Ok(c),
-                Powers::Log(log) => unknown(alloc, &log.reasons, log.capped, curves),
+                Powers::Log(log) => Ok(unknown(alloc, &log.reasons, log.capped, curves)?),
             }
         }
     }

@@ -2,14 +2,15 @@
 //!
 //! An inner map fixes every multicurve. So a power that moves one isn't inner, and no map need be made
 //! to know that.
-ghost use Rattle.std.specs.Prelude.{◌≡◌, ◌≢◌, ◌<◌, ◌≤◌, ℕ, false, IfOk, IfSome, IfNone, IsTrue};
+ghost use Rattle.std.specs.Prelude.{◌≡◌, ◌≢◌, ◌<◌, ◌≤◌, ℕ, false, IfOk, IfSome, IfNone, IsTrue, All};
 ghost use Rattle.std.specs.List.{repeat};
 ghost use Rattle.tri_atlas.specs.Arena.{triangulation};
-ghost use Rattle.tri_atlas.specs.MovedVectors.{vector_along};
 ghost use Rattle.tri_atlas.specs.Paths.{moves_of};
 ghost use Rattle.edge_coords.specs.Coordinates.{AreCoordinatesIn};
 ghost use Rattle.surface_lib.specs.Surfaces.{IsLoop};
 ghost use Rattle.free_groupoid.specs.Periodic.{IsInnerPath};
+ghost use Rattle.multicurve_cert.specs.Candidates.{image_number};
+ghost use Rattle.multicurve_cert.specs.Cycles.{IsCycle};
 ghost use Rattle.verdict_plan.specs.Budgets.{IsWithinLimits};
 ghost use Rattle.verdict_plan.specs.Verdicts.{HasNoOrder};
 ghost use Rattle.verdict_plan.specs.inside.Tried.{AreRuledOut, IsOfPowers};
@@ -20,10 +21,10 @@ use cert_text::{Certificate, certificate_laws};
 use edge_coords::{Coords, OverflowAt};
 use free_groupoid::{Walk, inner_laws, periodic_laws};
 use ideal_tri::{Memory, drawing_laws};
-use multicurve_cert::{cycle_coords, cycles};
+use multicurve_cert::{cycle_coords, cycles, power_laws};
 use periodic_cert::{PowerAnswer, powers};
 use std::alloc::Global;
-use tri_atlas::{Atlas, Path, atlas_laws, vector_laws};
+use tri_atlas::{Atlas, Path, vector_laws};
 
 /// The most letters of a map after a move.
 const LETTER_CAP: u64 = 262_144;
@@ -102,19 +103,18 @@ pub(crate) fn follow_powers(
     }
 }
 
-/// Whether each power up to the limit moves the vector of one cycle. No answer of no means anything.
+/// Whether each power up to the limit moves the vector of one cycle. An answer of no says nothing.
 fn are_ruled_out(alloc: Global, atlas: &Atlas, word: &Path, limit: u32) -> Result<bool, Memory>
     requires closed { IsLoop atlas.now word.now }
     ensures { IfOk result (λ ruled_out. IsTrue ruled_out
         → AreRuledOut (triangulation atlas.now 0) (moves_of atlas.now word.now) limit) }
 {
-    for cycle in cycles(alloc, atlas.tri(atlas.base()))? {
-        let w = cycle_coords(atlas, &cycle);
+    let cycles = base_cycles(alloc, atlas)?;
+    for cycle in &cycles {
+        let w = cycle_coords(atlas, cycle)?;
+        inner_fixes(atlas, word, &w);
         match comes_back(atlas, word, &w, limit) {
-            Ok(false) => {
-                inner_fixes(atlas, word, &w);
-                return Ok(true);
-            }
+            Ok(false) => return Ok(true),
             Ok(true) => {}
             Err(_) => return Ok(false),
         }
@@ -122,15 +122,25 @@ fn are_ruled_out(alloc: Global, atlas: &Atlas, word: &Path, limit: u32) -> Resul
     Ok(false)
 }
 
-/// Whether some power up to the limit carries the coordinates to themselves.
+/// The cycles of the base.
+fn base_cycles(alloc: Global, atlas: &Atlas) -> Result<Vec<Walk>, Memory>
+    ensures { IfOk result (λ walks.
+        All (λ w. IsCycle (triangulation atlas.now 0) w.letters) walks.items) }
+{
+    Ok(cycles(alloc, atlas.tri(atlas.base()))?)
+}
+
+/// Whether some power up to the limit carries the coordinates to themselves. `OverflowAt` where an
+/// image has a number of 2^126 or more before one does.
 fn comes_back(atlas: &Atlas, word: &Path, w: &Coords, limit: u32) -> Result<bool, OverflowAt>
     requires coordinates { AreCoordinatesIn atlas.now w.now }
     requires base { w.now.tri ≡ 0 }
     requires closed { IsLoop atlas.now word.now }
     ensures { IfOk result (λ back. back ≡ false → (k : ℕ) → 0 < k → k ≤ limit
-        → vector_along (repeat k (moves_of atlas.now word.now)) w.now.numbers ≢ w.now.numbers) }
+        → image_number (triangulation atlas.now 0) (moves_of atlas.now word.now) w.now.numbers k
+        ≢ w.now.numbers) }
 {
-    vector_laws();
+    power_laws(atlas, word);
     let mut image = *w;
     for _ in 0..limit {
         image.follow(atlas, word)?;
@@ -147,11 +157,12 @@ fn inner_fixes(atlas: &Atlas, word: &Path, w: &Coords)
     requires base { w.now.tri ≡ 0 }
     requires closed { IsLoop atlas.now word.now }
     ensures { (k : ℕ) → IsInnerPath (triangulation atlas.now 0) (repeat k (moves_of atlas.now word.now))
-        → vector_along (repeat k (moves_of atlas.now word.now)) w.now.numbers ≡ w.now.numbers }
+        → image_number (triangulation atlas.now 0) (moves_of atlas.now word.now) w.now.numbers k
+        ≡ w.now.numbers }
 {
     let _ = atlas.base();
-    atlas_laws();
     drawing_laws();
     inner_laws();
     vector_laws();
+    power_laws(atlas, word);
 }
