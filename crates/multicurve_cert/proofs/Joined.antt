@@ -1,5 +1,5 @@
 -- Numbers that are too large, along moves after others.
-use Rattle.std.proofs.Common.{◌≡◌, ◌<◌, ◌≤◌, ◌+◌, ◌⊎◌, inl, inr, ℕ, zero, suc, List, [], ◌++◌, length, take, refl, sym}
+use Rattle.std.proofs.Common.{◌≡◌, ◌<◌, ◌+◌, ◌⊎◌, inl, inr, ℕ, zero, suc, List, [], ◌++◌, length, take, sym}
 use Rattle.std.proofs.Common.{◌∙◌, ap, subst, arith}
 use Rattle.std.proofs.lemmas.List.{length-append, take-append-le, get_or_append_left, get_or-append-add}
 use Rattle.std.proofs.Math.Seq.{take-append-add}
@@ -8,7 +8,7 @@ use Rattle.tri_atlas.specs.MovedVectors.{vector_along, move_at, IsOver, IsFirstO
 use Rattle.tri_atlas.specs.VectorLaws.{VectorLaws}
 
 -- j is below n, or so many on
-below_or_on : (j n : ℕ) → (j < n) ⊎ ((i : ℕ) × (j ≡ n + i))
+pub below_or_on : (j n : ℕ) → (j < n) ⊎ ((i : ℕ) × (j ≡ n + i))
 below_or_on j zero = inr (j, omega arith)
 below_or_on zero (suc n) = inl (omega arith)
 below_or_on (suc j) (suc n) = elim (below_or_on j n) [

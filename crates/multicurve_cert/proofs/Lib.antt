@@ -1,3 +1,13 @@
+pub mod Joined
+pub mod Powers
+pub mod ImageList
+pub mod SumsAndDifferences
+pub mod Outcomes
+pub mod Turns
+pub mod Filled
+pub mod CycleCurves
+pub mod Trying
+pub mod ByCycles
 pub mod Distinct
 pub mod Pigeonhole
 pub mod Known
@@ -6,5 +16,10 @@ pub mod ClosedWalks
 pub mod LeastWords
 pub mod SimpleWalks
 pub mod ShortCycles
-pub mod Joined
-pub mod Powers
+pub mod LabelTests
+pub mod WordOrder
+pub mod WordRotations
+pub mod CycleTests
+pub mod CycleLists
+pub mod CyclePrefixes
+pub mod CycleStages

@@ -16,7 +16,8 @@ use Rattle.tri_atlas.specs.MovedVectors.{vector_along, IsFirstOver, OverflowsAt}
 use Rattle.tri_atlas.specs.VectorLaws.{VectorLaws, AlongLaws, OverflowLaws}
 use Rattle.edge_coords.specs.Coordinates.{AreSmall}
 use Rattle.edge_coords.specs.declared.coords.TheConstants.{COORDINATE_LIMIT}
-use Rattle.multicurve_cert.specs.Candidates.{HasSmallImage, Overflows, image_vector, image_number}
+use Rattle.multicurve_cert.specs.Candidates.{HasSmallImage, image_vector, image_number}
+use Rattle.multicurve_cert.specs.Candidates.{Overflows}
 use Rattle.multicurve_cert.specs.PowerLaws.{PowerLaws}
 use Rattle.multicurve_cert.proofs.Joined.{NoneFirst, over_left, over_right, none_joined}
 
@@ -100,20 +101,24 @@ module _ (triples : List (List ℤ)) (moves : List Move) (laws : VectorLaws) (dr
 
       next_large : (k : ℕ) → OverflowsAt COORDINATE_LIMIT triples here moves k → Overflows triples moves w (n + 1)
       next_large k h =
-          let there = length (repeat n moves) + k in
-          (there, ((overflows (repeat (n + 1) moves) w (paths_often (n + 1)) curve small).first there).1
-          (subst (λ (ms : List Move). IsFirstOver COORDINATE_LIMIT w ms there) (sym (repeat_more n moves))
-          (over_right laws COORDINATE_LIMIT w (repeat n moves) moves k (none_first w n curve small none)
-          (subst (λ (v : List ℕ). IsFirstOver COORDINATE_LIMIT v moves k) is_along
-          (((overflows moves here path here_curve small_here).first k).0 h)))))
+          let there = length (repeat n moves) + k in (
+            there,
+            ((overflows (repeat (n + 1) moves) w (paths_often (n + 1)) curve small).first there).1
+                (subst (λ (ms : List Move). IsFirstOver COORDINATE_LIMIT w ms there) (sym (repeat_more n moves))
+                (over_right laws COORDINATE_LIMIT w (repeat n moves) moves k (none_first w n curve small none)
+                (subst (λ (v : List ℕ). IsFirstOver COORDINATE_LIMIT v moves k) is_along
+                (((overflows moves here path here_curve small_here).first k).0 h)))),
+          )
 
     later : (m : ℕ) → n ≤ m → Overflows triples moves w n → Overflows triples moves w m
     later m more (k, h) =
-        let on : m ≡ n + (m - n) = omega arith in
-        (k, ((overflows (repeat m moves) w (paths_often m) curve small).first k).1
-        (subst (λ (ms : List Move). IsFirstOver COORDINATE_LIMIT w ms k) (sym (repeat_on n (m - n) m moves on))
-        (over_left laws COORDINATE_LIMIT w (repeat n moves) (repeat (m - n) moves) k
-        (((overflows (repeat n moves) w (paths_often n) curve small).first k).0 h))))
+        let on : m ≡ n + (m - n) = omega arith in (
+          k,
+          ((overflows (repeat m moves) w (paths_often m) curve small).first k).1
+              (subst (λ (ms : List Move). IsFirstOver COORDINATE_LIMIT w ms k) (sym (repeat_on n (m - n) m moves on))
+              (over_left laws COORDINATE_LIMIT w (repeat n moves) (repeat (m - n) moves) k
+              (((overflows (repeat n moves) w (paths_often n) curve small).first k).0 h))),
+        )
 
   pub power_laws : PowerLaws triples moves
   power_laws = record {

@@ -2,3 +2,4 @@ pub mod Cycles
 pub mod Candidates
 pub mod CurveAnswers
 pub mod PowerLaws
+pub mod inside

@@ -10,7 +10,7 @@
 //! cycles, in their order.
 //!
 //! The definitions stand in `specs/`: `Cycles`, `Candidates` (how they are made, and their tests) and
-//! `CurveAnswers`.
+//! `CurveAnswers`; what holds of the images of multicurves under powers in `PowerLaws`.
 //!
 //! ```text
 //! match search(alloc, &atlas, &path, 256)? {
@@ -20,11 +20,21 @@
 //! ```
 #![tactic(auto)]
 
+mod candidates;
 mod curve_search;
 mod cycle_law;
 mod cycle_list;
+mod cycle_test;
+mod cycle_vectors;
+mod images;
+mod least_words;
 mod power_law;
+#[cfg(test)]
+mod search_tests;
+#[cfg(test)]
+mod tests;
 
 pub use curve_search::{Curves, search};
-pub use cycle_list::{cycle_coords, cycles};
+pub use cycle_list::cycles;
+pub use cycle_vectors::cycle_coords;
 pub use power_law::power_laws;

@@ -111,7 +111,7 @@ fn are_ruled_out(alloc: Global, atlas: &Atlas, word: &Path, limit: u32) -> Resul
 {
     let cycles = base_cycles(alloc, atlas)?;
     for cycle in &cycles {
-        let w = cycle_coords(atlas, cycle)?;
+        let w = cycle_coords(atlas, cycle);
         inner_fixes(atlas, word, &w);
         match comes_back(atlas, word, &w, limit) {
             Ok(false) => return Ok(true),

@@ -1,0 +1,4 @@
+pub mod Images
+pub mod Tested
+pub mod Among
+pub mod CycleParts
