@@ -1,0 +1,28 @@
+//! The search for a multicurve that a word fixes, which decides whether a mapping class is reducible.
+//!
+//! A mapping class is reducible where it fixes a multicurve none of whose curves runs round a vertex
+//! (Farb and Margalit, chapter 13). The candidates here are made of the cycles of the dual graph, the
+//! closed walks of at most eight letters that visit no triangle twice: sums of a cycle and its first
+//! images under the word, and differences of two images, each without the curves round vertices.
+//! `search` tries them in order. It promises that `Found` has the first candidate within the budget
+//! that passes all tests; that it is a multicurve below 2^126 with a free corner at each vertex; and
+//! that `None` has a line for each candidate, the first test that it fails. `cycles` gives exactly the
+//! cycles, in their order.
+//!
+//! The definitions stand in `specs/`: `Cycles`, `Candidates` (how they are made, and their tests) and
+//! `CurveAnswers`.
+//!
+//! ```text
+//! match search(alloc, &atlas, &path, 256)? {
+//!     Curves::Found { number, coords } => ..
+//!     Curves::None { log } => ..   // a line for each candidate
+//! }
+//! ```
+#![tactic(auto)]
+
+mod curve_search;
+mod cycle_law;
+mod cycle_list;
+
+pub use curve_search::{Curves, search};
+pub use cycle_list::cycles;
