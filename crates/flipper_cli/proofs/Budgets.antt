@@ -5,33 +5,48 @@ use Rattle.std.specs.Option.{option_map_or}
 use Rattle.std.specs.Str.{bytes_eq}
 use Rattle.std.specs.Str.Parse.{digits_value}
 use Rattle.std.proofs.lemmas.Bool.{and_parts, cases_Bool, leb-true}
-use Rattle.flipper_cli.specs.Options.{Budget, Setting, are_fitting, budget_in, budget_of, is_number_up_to}
+use Rattle.std.proofs.lemmas.Slice.Eq.{bytes_eq-Decides}
+use Rattle.cert_text.specs.Holds.{order_limit}
+use Rattle.verdict_plan.specs.Budgets.{IsWithinLimits, curve_limit}
+use Rattle.verdict_plan.specs.declared.budget.Budget.{Budget}
+use Rattle.flipper_cli.specs.Options.{Setting, are_fitting, budget_in, budget_of, is_number_up_to}
 use Rattle.flipper_cli.specs.Options.{is_short_number, limit_of, number_of}
 use Rattle.flipper_cli.specs.Commands.{Source, classify, classify_command, is_argument, source_of}
 use Rattle.flipper_cli.specs.inside.SeenCommand.{budget_given}
 use Rattle.flipper_cli.proofs.Settings.{budget_by, fits_by, fits_first}
 
--- ---- how many powers
+-- ---- the limits
 
 within : (limit : Option ℕ) (most : ℕ) (text : List ℕ) → limit ≡ Some most
     → option_map_or (λ m. is_number_up_to m text) limit false ≡ true → digits_value 10 text ≤ most
 within limit most text is fits = leb-true (digits_value 10 text) most (and_parts (is_short_number text) _ (rw is at fits)).1
 
-powers_small : (all : List Setting) → are_fitting all ≡ true → number_of (codes "powers") 48 all ≤ 1024
-powers_small [] fits = omega arith
-powers_small (setting ∷ others) fits =
+-- the number of an option is within its limit, if the number that stands for none is
+number_small : (name : List ℕ) (most otherwise : ℕ) → limit_of name ≡ Some most → otherwise ≤ most → (all : List Setting)
+    → are_fitting all ≡ true → number_of name otherwise all ≤ most
+number_small name most otherwise is small [] fits = small
+number_small name most otherwise is small (setting ∷ others) fits =
     let first = fits_first setting others fits in
-    elim (cases_Bool (bytes_eq setting.name (codes "powers"))) [
-      | inl same ↦ rw same (within (limit_of setting.name) 1024 setting.number (rw same refl) first.fits)
-      | inr other ↦ rw other (powers_small others first.rest)
+    elim (cases_Bool (bytes_eq setting.name name)) [
+      | inl same ↦
+          (let limited = ap limit_of ((bytes_eq-Decides setting.name name).0 same) ∙ is in
+          rw same (within (limit_of setting.name) most setting.number limited first.fits))
+      | inr other ↦ rw other (number_small name most otherwise is small others first.rest)
     ]
 
--- the budget of words that fit tries few powers
-pub budget_small : (words : List (List ℕ)) (b : Budget) → budget_of words ≡ Some b → b.powers ≤ 1024
+within_limits : (all : List Setting) → are_fitting all ≡ true → IsWithinLimits (budget_in all)
+within_limits all fits = record {
+  powers = number_small (codes "powers") order_limit 48 refl (omega arith) all fits;
+  curves = number_small (codes "curves") curve_limit 256 refl (omega arith) all fits;
+  tracks = omega arith;
+}
+
+-- the budget of words that fit is within the limits
+pub budget_small : (words : List (List ℕ)) (b : Budget) → budget_of words ≡ Some b → IsWithinLimits b
 budget_small words b is =
     let fits = fits_by words (ap is_some is) in
     let same : b ≡ budget_in fits.0 = ap (λ (o : Option Budget). unwrap_or o b) (sym is ∙ budget_by words fits.0 fits.1) in
-    subst (λ (x : Budget). x.powers ≤ 1024) (sym same) (powers_small fits.0 fits.1.fits)
+    subst IsWithinLimits (sym same) (within_limits fits.0 fits.1.fits)
 
 -- ---- the budget that the code sees
 

@@ -1,5 +1,5 @@
 -- `clap` as the command that reads the options: it takes words that fit, and finds their settings.
-use Rattle.std.proofs.Common.{◌≡◌, List, [], ◌∷◌, length, map, fold, Bool, true, false}
+use Rattle.std.proofs.Common.{◌≡◌, ℕ, Option, Some, List, [], ◌∷◌, length, map, fold, Bool, true, false}
 use Rattle.std.proofs.Common.{None, is_some, refl, sym, ◌∙◌, ap, subst, arith, codes, if◌then◌else◌}
 use Rattle.std.proofs.Common.{inl, inr}
 use Rattle.std.specs.List.{list_all}
@@ -24,16 +24,32 @@ options_shape = (built options_app).top
 
 -- ---- each option that fits is one of the command
 
--- what holds of the name of each option holds of the names that have a limit
-each_name : (P : Text → Type 0) → P (codes "powers") → (name : Text) → is_some (limit_of name) ≡ true → P name
-each_name P powers name known =
-    elim (cases_Bool (bytes_eq name (codes "powers"))) [
-      | inl same ↦ subst P (sym ((bytes_eq-Decides name (codes "powers")).0 same)) powers
-      | inr other ↦ absurd (let bad : false ≡ true = rw other at known in cc)
+-- a name that has a limit is this option's, or has one among the limits behind it
+this_or_later : (P : Text → Type 0) (option name : Text) (limit : ℕ) (later : Option ℕ) → P option
+    → (is_some later ≡ true → P name)
+    → is_some (if bytes_eq name option then Some limit else later) ≡ true → P name
+this_or_later P option name limit later this rest known =
+    elim (cases_Bool (bytes_eq name option)) [
+      | inl same ↦ subst P (sym ((bytes_eq-Decides name option).0 same)) this
+      | inr other ↦ rest (rw other at known)
     ]
 
+-- what holds of the name of each option holds of the names that have a limit
+record HoldsOfEach (P : Text → Type 0) : Type 0 where
+  powers : P (codes "powers")
+  curves : P (codes "curves")
+
+each_name : (P : Text → Type 0) → HoldsOfEach P → (name : Text) → is_some (limit_of name) ≡ true → P name
+each_name P each name =
+    this_or_later P (codes "powers") name _ _ each.powers
+    (this_or_later P (codes "curves") name _ _ each.curves
+    (λ none. absurd (cc)))
+
 has_options : HasOptions options_shape
-has_options = each_name (IsOption options_shape.rules) (record { by_long = refl; by_id = refl })
+has_options = each_name (IsOption options_shape.rules) (record {
+  powers = record { by_long = refl; by_id = refl };
+  curves = record { by_long = refl; by_id = refl };
+})
 
 -- ---- no option has a default
 

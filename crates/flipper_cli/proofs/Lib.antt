@@ -15,7 +15,6 @@ pub mod Lines
 pub mod Shown
 -- a whole run
 pub mod Budgets
-pub mod Verdicts
 pub mod Found
 pub mod Answered
 pub mod Runs

@@ -4,6 +4,7 @@ use Rattle.std.proofs.Common.{append_assoc, arith}
 use Rattle.std.specs.Fmt.{decimal}
 use Rattle.std.specs.List.{join_with_byte}
 use Rattle.std.proofs.lemmas.List.{nil_from_length, take_more, map-append, length-map, length-take}
+use Rattle.flipper_cli.specs.Line.{spaced_numbers}
 
 -- one piece more
 join_with_byte_push : (c : ℕ) (pieces : List (List ℕ)) (piece : List ℕ) → 0 < length pieces
@@ -16,7 +17,7 @@ join_with_byte_push c (p ∷ q ∷ pieces) piece some =
 
 -- the first k numbers, as they stand on the line
 abbrev pub spaced : List ℕ → ℕ → List ℕ
-spaced ns k = join_with_byte 32 (map decimal (take k ns))
+spaced ns k = spaced_numbers (take k ns)
 
 decimals_more : (ns : List ℕ) (k : ℕ) → k < length ns
     → map decimal (take (k + 1) ns) ≡ map decimal (take k ns) ++ decimal (get_or ns k 0) ∷ []
@@ -42,16 +43,22 @@ spaced-more ns k inside later =
     (omega (arith, length-decimals ns k inside))
     ∙ sym (append_assoc (spaced ns k) (32 ∷ []) (decimal (get_or ns k 0))))
 
--- a line that is written on: the next number, with a space before it unless it is the first
-pub spaced_from_first : (ns : List ℕ) (k : ℕ) (before line : List ℕ) → k < length ns → k ≤ 0 → before ≡ spaced ns k
-    → line ≡ before ++ decimal (get_or ns k 0) → line ≡ spaced ns (k + 1)
-spaced_from_first ns k before line inside first so_far written =
-    written ∙ ap (λ (z : List ℕ). z ++ decimal (get_or ns k 0)) so_far ∙ sym (spaced-first ns k inside first)
-
-pub spaced_from_more : (ns : List ℕ) (k : ℕ) (before space line : List ℕ) → k < length ns → 0 < k
-    → before ≡ spaced ns k → space ≡ before ++ 32 ∷ [] → line ≡ space ++ decimal (get_or ns k 0)
-    → line ≡ spaced ns (k + 1)
-spaced_from_more ns k before space line inside later so_far parted written =
+-- a text that is written on behind `start`: the next number, with a space before it unless it is the
+-- first
+pub spaced_from_first : (ns : List ℕ) (k : ℕ) (start before line : List ℕ) → k < length ns → k ≤ 0
+    → before ≡ start ++ spaced ns k → line ≡ before ++ decimal (get_or ns k 0) → line ≡ start ++ spaced ns (k + 1)
+spaced_from_first ns k start before line inside first so_far written =
     written
-    ∙ ap (λ (z : List ℕ). z ++ decimal (get_or ns k 0)) (parted ∙ ap (λ (z : List ℕ). z ++ 32 ∷ []) so_far)
-    ∙ sym (spaced-more ns k inside later)
+    ∙ ap (λ (z : List ℕ). z ++ decimal (get_or ns k 0)) so_far
+    ∙ append_assoc start (spaced ns k) (decimal (get_or ns k 0))
+    ∙ ap (λ (z : List ℕ). start ++ z) (sym (spaced-first ns k inside first))
+
+pub spaced_from_more : (ns : List ℕ) (k : ℕ) (start before space line : List ℕ) → k < length ns → 0 < k
+    → before ≡ start ++ spaced ns k → space ≡ before ++ 32 ∷ [] → line ≡ space ++ decimal (get_or ns k 0)
+    → line ≡ start ++ spaced ns (k + 1)
+spaced_from_more ns k start before space line inside later so_far parted written =
+    written
+    ∙ ap (λ (z : List ℕ). z ++ decimal (get_or ns k 0))
+    (parted ∙ ap (λ (z : List ℕ). z ++ 32 ∷ []) so_far ∙ append_assoc start (spaced ns k) (32 ∷ []))
+    ∙ append_assoc start (spaced ns k ++ 32 ∷ []) (decimal (get_or ns k 0))
+    ∙ ap (λ (z : List ℕ). start ++ z) (sym (spaced-more ns k inside later))

@@ -4,7 +4,8 @@ use Rattle.std.specs.Prelude.{not, map, String, string_bytes, codes, ifâ—Œthenâ—
 use Rattle.std.specs.Option.{option_map}
 use Rattle.std.specs.Str.{bytes_eq}
 use Rattle.std.specs.declared.alloc.Global.{Global}
-use Rattle.flipper_cli.specs.Options.{Budget, budget_of}
+use Rattle.verdict_plan.specs.declared.budget.Budget.{Budget}
+use Rattle.flipper_cli.specs.Options.{budget_of}
 
 -- where a surface comes from: a file on the shelf, or the program itself
 pub data Source : Type 0 where

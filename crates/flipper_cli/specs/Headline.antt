@@ -5,8 +5,11 @@
 -- drawings of a multicurve have the same curves (`ideal_tri::drawing_laws`), so it is one image.
 -- What `show` prints is true of the surface.
 -- Each verdict of `classify` other than unknown has a certificate that holds, and means what it says:
--- `periodic K` that the K-th power of the word's map is the first that is inner. With `unknown` comes
--- a true log of what was tried.
+-- `periodic K` that the K-th power of the word's map is the first that is inner; `reducible` and a
+-- vector that this is a multicurve's, with at least one curve and none that runs round a vertex, and
+-- that the word's map carries its curves to themselves, up to order, rotation and direction, so that
+-- its image is itself. The powers are tried first, then the candidates for such a vector. With
+-- `unknown` comes a true log of what was tried.
 use Rattle.std.specs.Prelude.{◌≡◌, ℕ, List, Option, Some, None, Ok}
 use Rattle.flip_io.specs.Files.{Files}
 use Rattle.ideal_tri.specs.Drawings.{draw}
@@ -18,13 +21,14 @@ use Rattle.surface_lib.specs.Refusals.{moves_kind, reading}
 use Rattle.cert_text.specs.CertificateLaws.{IsMeant}
 use Rattle.cert_text.specs.Certificates.{Certificate}
 use Rattle.cert_text.specs.Holds.{HoldsFor}
+use Rattle.verdict_plan.specs.Verdicts.{IsVerdict}
+use Rattle.verdict_plan.specs.declared.budget.Budget.{Budget}
 use Rattle.flipper_cli.specs.Commands.{Command, show, image, classify, source_in}
 use Rattle.flipper_cli.specs.Coordinates.{numbers_in}
 use Rattle.flipper_cli.specs.Line.{line_of}
-use Rattle.flipper_cli.specs.Options.{Budget}
 use Rattle.flipper_cli.specs.Report.{IsFound}
 use Rattle.flipper_cli.specs.Show.{show_lines}
-use Rattle.flipper_cli.specs.Verdicts.{IsVerdict, verdict_lines}
+use Rattle.flipper_cli.specs.Verdicts.{verdict_lines}
 
 -- the line printed for a multicurve is that of its image under the map of the word's moves
 pub record IsImageLine (d : Described) (word coordinates printed : List ℕ) : Type 0 where

@@ -1,4 +1,4 @@
--- The options on the command line, as `--powers 40`, and the budget that they give.
+-- The options on the command line, as `--powers 40 --curves=100`, and the budget that they give.
 use Rattle.std.specs.Prelude.{◌&&◌, ◌==◌, ℕ, Bool, true, false, not, List, [], ◌∷◌, Option, Some, None}
 use Rattle.std.specs.Prelude.{length, drop, nat_le, nat_eq, find, codes, if◌then◌else◌}
 use Rattle.std.specs.Prelude.{option_map, option_and_then}
@@ -6,11 +6,9 @@ use Rattle.std.specs.List.{list_any, before_first, after_first, starts_with}
 use Rattle.std.specs.Option.{option_map_or}
 use Rattle.std.specs.Str.{all_ascii_digits, bytes_eq}
 use Rattle.std.specs.Str.Parse.{digits_value}
-
--- how much the program may try
-pub record Budget : Type 0 where
-  -- the largest power
-  pub powers : ℕ
+use Rattle.cert_text.specs.Holds.{order_limit}
+use Rattle.verdict_plan.specs.Budgets.{curve_limit}
+use Rattle.verdict_plan.specs.declared.budget.Budget.{Budget}
 
 -- an option as the words give it: its name, and the text of its number
 pub record Setting : Type 0 where
@@ -56,7 +54,10 @@ settings_of words = settings_from None words
 
 -- the largest number that the option of this name takes
 abbrev pub limit_of : List ℕ → Option ℕ
-limit_of name = if bytes_eq name (codes "powers") then Some 1024 else None
+limit_of name =
+    if bytes_eq name (codes "powers") then Some order_limit
+    else if bytes_eq name (codes "curves") then Some curve_limit
+    else None
 
 -- 1 to 5 decimal digits
 abbrev pub is_short_number : List ℕ → Bool
@@ -91,8 +92,13 @@ abbrev pub number_of : List ℕ → ℕ → List Setting → ℕ
 number_of name otherwise settings =
     option_map_or (digits_value 10) (number_text name settings) otherwise
 
+-- there is no option for train tracks, which nothing searches for yet
 abbrev pub budget_in : List Setting → Budget
-budget_in settings = record { powers = number_of (codes "powers") 48 settings }
+budget_in settings = record {
+  powers = number_of (codes "powers") 48 settings;
+  curves = number_of (codes "curves") 256 settings;
+  tracks = 0;
+}
 
 abbrev pub budget_if_fitting : List Setting → Option Budget
 budget_if_fitting settings = if are_fitting settings then Some (budget_in settings) else None

@@ -19,16 +19,17 @@ use Rattle.surface_lib.specs.Refusals.{moves_kind, reading}
 use Rattle.surface_lib.specs.SurfaceFiles.{IsReadingOf}
 use Rattle.surface_lib.specs.declared.error.WordError.{WordError}
 use Rattle.surface_lib.specs.declared.surface_error.SurfaceError.{SurfaceError}
-use Rattle.flipper_cli.specs.Answers.{Report, printed, refused}
 use Rattle.cert_text.specs.Certificates.{Certificate}
+use Rattle.verdict_plan.specs.Verdicts.{IsVerdict}
+use Rattle.verdict_plan.specs.declared.budget.Budget.{Budget}
+use Rattle.flipper_cli.specs.Answers.{Report, printed, refused}
 use Rattle.flipper_cli.specs.Commands.{Command, Source, show, image, classify, file, builtin}
 use Rattle.flipper_cli.specs.Commands.{source_in}
 use Rattle.flipper_cli.specs.Coordinates.{numbers_in}
 use Rattle.flipper_cli.specs.Line.{line_of}
-use Rattle.flipper_cli.specs.Options.{Budget}
 use Rattle.flipper_cli.specs.RefusalCauses.{for_numbers}
 use Rattle.flipper_cli.specs.Show.{show_lines}
-use Rattle.flipper_cli.specs.Verdicts.{IsVerdict, verdict_lines}
+use Rattle.flipper_cli.specs.Verdicts.{verdict_lines}
 use Rattle.flipper_cli.specs.declared.coordinates.NumbersError.{NumbersError}
 use Rattle.flipper_cli.specs.declared.refusal.CoordinatesError.TheVariants.{Coords}
 use Rattle.flipper_cli.specs.declared.refusal.Refusal.{Refusal}

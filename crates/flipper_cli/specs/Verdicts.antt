@@ -1,27 +1,14 @@
--- The verdict on a word, and the lines that `classify` prints of it.
-use Rattle.std.specs.Prelude.{◌++◌, ℕ, ℤ, List, [], codes, Some, None}
+-- The lines that `classify` prints of a verdict.
+use Rattle.std.specs.Prelude.{◌++◌, ℕ, List, codes}
 use Rattle.std.specs.Fmt.{decimal}
-use Rattle.tri_atlas.specs.Moves.{Move}
-use Rattle.periodic_cert.specs.PowerAnswers.{IsOrder, IsCapped, AreAllRefuted}
-use Rattle.cert_text.specs.Certificates.{Certificate, periodic, unknown}
-use Rattle.cert_text.specs.Holds.{letter_cap}
+use Rattle.cert_text.specs.Certificates.{Certificate, periodic, reducible, unknown}
 use Rattle.cert_text.specs.Texts.{certificate_text}
-use Rattle.flipper_cli.specs.Options.{Budget}
+use Rattle.flipper_cli.specs.Line.{spaced_numbers}
 
--- the first verdict within the budget: the powers are tried in order, until one is inner or passes
--- the cap on letters; where none is inner, the log of what was tried
-abbrev pub IsVerdict : List (List ℤ) → List Move → Budget → Certificate → Type 0
-IsVerdict triples moves budget (periodic order paths reasons) =
-    IsOrder triples moves budget.powers letter_cap order paths reasons
-IsVerdict triples moves budget (unknown powers None [] []) =
-    AreAllRefuted triples moves budget.powers letter_cap powers
-IsVerdict triples moves budget (unknown powers (Some capped) [] []) =
-    IsCapped triples moves budget.powers letter_cap capped.0 capped.1 powers
-IsVerdict triples moves budget _ = ⊥
-
--- the verdict itself
+-- the verdict itself: a reducible word's with the numbers of a multicurve that it fixes, edge by edge
 abbrev pub verdict_text : Certificate → List ℕ
 verdict_text (periodic order paths reasons) = codes "periodic " ++ decimal order
+verdict_text (reducible coords) = codes "reducible " ++ spaced_numbers coords
 verdict_text (unknown powers capped curves tracks) = codes "unknown"
 
 -- the line of the verdict, and the line of its certificate

@@ -1,6 +1,6 @@
-//! The line that is printed.
-ghost use Rattle.std.specs.Prelude.{◌≡◌, [], IfOk, string_bytes};
-ghost use Rattle.flipper_cli.specs.Line.{line_of};
+//! The numbers of a vector, and the line of one.
+ghost use Rattle.std.specs.Prelude.{◌≡◌, ◌++◌, [], IfOk, OnOk, string_bytes};
+ghost use Rattle.flipper_cli.specs.Line.{line_of, spaced_numbers};
 
 use ideal_tri::Memory;
 
@@ -10,14 +10,23 @@ pub(crate) fn line_of(room: String, vector: &[u128]) -> Result<Vec<u8>, Memory>
     ensures { IfOk result (λ b. b.items ≡ line_of vector.now) }
 {
     let mut line = room;
-    for (k, n) in vector.iter().enumerate() {
+    push_numbers(&mut line, vector)?;
+    line.push('\n')?;
+    Ok(line.into_bytes())
+}
+
+/// Writes decimal numbers with one space between them.
+pub(crate) fn push_numbers(line: &mut String, numbers: &[u128]) -> Result<(), Memory>
+    ensures { OnOk result (string_bytes line.new
+        ≡ string_bytes line.old ++ spaced_numbers numbers.now) }
+{
+    for (k, n) in numbers.iter().enumerate() {
         if k > 0 {
             line.push(' ')?;
         }
         write!(line, "{n}")?;
     }
-    line.push('\n')?;
-    Ok(line.into_bytes())
+    Ok(())
 }
 
 #[cfg(test)]

@@ -8,20 +8,14 @@ ghost use Rattle.flipper_cli.specs.Options.{budget_of, settings_of, with_setting
 ghost use Rattle.flipper_cli.specs.Options.{is_fitting, is_short_number, is_number_up_to, is_set, number_text};
 ghost use Rattle.flipper_cli.specs.Options.{Setting as SettingOfWords};
 ghost use Rattle.flipper_cli.specs.inside.OptionCommand.{option_rule, options_app};
-ghost use Rattle.flipper_cli.specs.inside.SeenOptions.{seen_budget, seen_setting};
+ghost use Rattle.flipper_cli.specs.inside.SeenOptions.{seen_setting};
 
 use crate::coordinates::are_digits;
 use clap::error::ErrorKind;
 use clap::{Arg, ArgAction, ArgMatches, Command};
 use ideal_tri::Memory;
 use std::alloc::{AllocError, Global};
-
-/// How much the program may try.
-#[derive(Clone, Copy, Debug, PartialEq, Eq)]
-pub(crate) struct Budget {
-    /// The largest power.
-    pub(crate) powers: u32,
-}
+use verdict_plan::Budget;
 
 /// An option as the words give it: its name, and the text of its number.
 #[derive(Clone, Copy)]
@@ -34,7 +28,8 @@ struct Setting<'a> {
 const DIGIT_LIMIT: usize = 5;
 
 /// Whether the words are options that the program has, each at most once, with a number in its
-/// limit: `--powers N` or `--powers=N`, with N of 1 to 5 digits up to 1024.
+/// limit: `--powers N` or `--powers=N`, with N of 1 to 5 digits up to 1,024, and `--curves N` or
+/// `--curves=N`, with N up to 65,536.
 pub(crate) fn fits_options(words: &[String]) -> bool
     ensures { result ≡ is_some (budget_of (map string_bytes words.now)) }
 {
@@ -103,7 +98,11 @@ fn is_fitting(setting: Setting<'_>) -> bool
 fn limit_of(name: &str) -> Option<u32>
     ensures { result ≡ limit_of name.now }
 {
-    if name == "powers" { Some(1024) } else { None }
+    match name {
+        "powers" => Some(1024),
+        "curves" => Some(65_536),
+        _ => None,
+    }
 }
 
 /// Whether the text is 1 to 5 digits, with a value of at most `limit`.
@@ -128,18 +127,22 @@ fn number_of_digits(digits: &str) -> u32
     digits.parse::<u32>().unwrap_or(0)
 }
 
-/// The budget that the words give, which fit. `clap` reads them, as the options of a command, and can
+/// The budget that the words give, which fit: 48 powers and 256 curves where they say nothing, and no
+/// tracks, for which there is no search yet. `clap` reads them, as the options of a command, and can
 /// fail for want of memory alone.
 pub(crate) fn read_options(alloc: Global, words: &[String]) -> Result<Budget, Memory>
     requires { is_some (budget_of (map string_bytes words.now)) ≡ true }
     ensures { IfOk result (λ budget.
-        budget_of (map string_bytes words.now) ≡ Some (seen_budget budget)) }
+        budget_of (map string_bytes words.now) ≡ Some budget) }
 {
     let Ok(matches) = matches_of(alloc, words) else {
         return Err(Memory);
     };
-    let powers = number_or(&matches, "powers", 48);
-    Ok(Budget { powers })
+    Ok(Budget {
+        powers: number_or(&matches, "powers", 48),
+        curves: number_or(&matches, "curves", 256),
+        tracks: 0,
+    })
 }
 
 /// The number of an option, if `clap` found one.
@@ -172,10 +175,10 @@ fn matches_of(alloc: Global, words: &[String]) -> Result<ArgMatches<'_>, clap::E
 fn command<'a>(alloc: Global) -> Result<Command<'a>, AllocError>
     ensures { IfOk result (λ command. app_of command ≡ options_app) }
 {
-    let powers = option(alloc, "powers");
     Command::new(alloc, "classify")
         .no_binary_name(true)
-        .arg(powers)
+        .arg(option(alloc, "powers"))?
+        .arg(option(alloc, "curves"))
 }
 
 /// The option `--name` with one value.
@@ -184,4 +187,34 @@ fn option<'a>(alloc: Global, name: &'a str) -> Arg<'a>
     ensures own { result.global ≡ false }
 {
     Arg::new(alloc, name).long(name).action(ArgAction::Set)
+}
+
+#[cfg(test)]
+mod tests {
+    use super::*;
+    use std::test::Fail;
+
+    #[test]
+    fn budgets(rt: HostRuntime) -> Result<(), Fail> {
+        let alloc = rt.alloc();
+        for (line, powers, curves) in [
+            (&[][..], 48, 256),
+            (&["--powers", "0"][..], 0, 256),
+            (&["--curves=65536"][..], 48, 65_536),
+            (&["--curves", "007", "--powers=1024"][..], 1024, 7),
+        ] {
+            let mut words = Vec::new(alloc);
+            for word in line {
+                words.push(word.to_string(alloc)?)?;
+            }
+            let budget = Budget {
+                powers,
+                curves,
+                tracks: 0,
+            };
+            assert!(rt; fits_options(&words));
+            assert_eq!(rt; read_options(alloc, &words)?, budget);
+        }
+        Ok(())
+    }
 }

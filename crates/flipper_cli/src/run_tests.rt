@@ -225,7 +225,7 @@ const READING: [Row; 17] = [
 ];
 
 /// Rows of calls that read no file that is there.
-const ROWS: [Row; 16] = [
+const ROWS: [Row; 20] = [
     (&[], Status::WordsRefused, "", "error: usage\n"),
     (&["image"], Status::WordsRefused, "", "error: usage\n"),
     (
@@ -271,19 +271,45 @@ const ROWS: [Row; 16] = [
         "",
     ),
     (
-        &["classify", "@S_1_1", "a.b", "--powers", "1"],
+        &["classify", "@S_1_1", "a"],
         Status::Done,
-        "unknown\n{\"capped\":null,\"curves\":[],\"kind\":\"unknown\",\"powers\":[[1,-1]],\"tracks\":[]}\n",
+        "reducible 1 0 1\n{\"coords\":[\"1\",\"0\",\"1\"],\"kind\":\"reducible\"}\n",
         "",
     ),
     (
-        &["classify", "@S_1_1", "a.B", "--powers=0000"],
+        &["classify", "@S_1_1", "b", "--curves=1", "--powers", "2"],
+        Status::Done,
+        "reducible 1 1 0\n{\"coords\":[\"1\",\"1\",\"0\"],\"kind\":\"reducible\"}\n",
+        "",
+    ),
+    (
+        &[
+            "classify", "@S_1_1", "a.b", "--powers", "1", "--curves", "1",
+        ],
+        Status::Done,
+        "unknown\n{\"capped\":null,\"curves\":[\"moved\"],\"kind\":\"unknown\",\"powers\":[[1,-1]],\"tracks\":[]}\n",
+        "",
+    ),
+    (
+        &["classify", "@S_1_1", "a", "--powers", "1", "--curves", "1"],
+        Status::Done,
+        "unknown\n{\"capped\":null,\"curves\":[\"moved\"],\"kind\":\"unknown\",\"powers\":[[1,-1]],\"tracks\":[]}\n",
+        "",
+    ),
+    (
+        &["classify", "@S_1_1", "a.B", "--powers=0000", "--curves=0"],
         Status::Done,
         "unknown\n{\"capped\":null,\"curves\":[],\"kind\":\"unknown\",\"powers\":[],\"tracks\":[]}\n",
         "",
     ),
     (
         &["classify", "@S_1_1", "a", "--powers", "2000"],
+        Status::WordsRefused,
+        "",
+        "error: usage\n",
+    ),
+    (
+        &["classify", "@S_1_1", "a", "--curves", "65537"],
         Status::WordsRefused,
         "",
         "error: usage\n",

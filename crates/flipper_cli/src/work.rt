@@ -35,13 +35,13 @@ fn source_of(command: Command<'_>) -> Source<'_>
 }
 
 /// What a command prints about its surface.
-fn about(alloc: Global, s: &Surface, command: Command) -> Result<Vec<u8>, Refusal>
-    requires surface { IsSurface s.now }
+fn about(alloc: Global, s: &mut Surface, command: Command) -> Result<Vec<u8>, Refusal>
+    requires surface { IsSurface s.old }
     requires budget { HasBudget command }
-    ensures report { IsSurfaceReport (seen command.entry) (described s.now) (shown result)
+    ensures report { IsSurfaceReport (seen command.entry) (described s.old) (shown result)
         ⊎ (result ≡ Err Refusal.Memory) }
     ensures printed { IfOk result (λ bytes.
-        IsPrinted (seen command.entry) (described s.now) bytes.items) }
+        IsPrinted (seen command.entry) (described s.old) bytes.items) }
     ensures refused { IfErr result IsAboutSurface }
 {
     match command {
@@ -85,8 +85,8 @@ fn answer<S: Shelf>(alloc: Global, shelf: &mut S, command: Command) -> Result<Ve
     ensures some_files { IfOk result (λ bytes.
         (files : Files) × IsHeadline (Some (seen command.entry)) files bytes.items) }
 {
-    let surface = find(alloc, shelf, source_of(command))?;
-    about(alloc, &surface, command)
+    let mut surface = find(alloc, shelf, source_of(command))?;
+    about(alloc, &mut surface, command)
 }
 
 /// What the command that the words fit prints.

@@ -1,8 +1,9 @@
 -- The source and the command that the code reads, as the definitions see them.
 use Rattle.std.specs.Prelude.{◌≡◌, List, ℕ, Some, map, string_bytes, unwrap_or}
+use Rattle.verdict_plan.specs.declared.budget.Budget.{Budget}
 use Rattle.flipper_cli.specs.Commands.{file, builtin, show, image, classify}
 use Rattle.flipper_cli.specs.Commands.{Source as SourceOfWords, Command as CommandOfWords}
-use Rattle.flipper_cli.specs.Options.{Budget, budget_of}
+use Rattle.flipper_cli.specs.Options.{budget_of}
 use Rattle.flipper_cli.specs.declared.commands.Command.{Command}
 use Rattle.flipper_cli.specs.declared.commands.Command.TheVariants.{Show, Image, Classify}
 use Rattle.flipper_cli.specs.declared.commands.Source.{Source}
@@ -14,7 +15,7 @@ seen_source (Builtin name) = builtin name.now
 
 -- the budget of options that fit
 abbrev pub budget_given : List (List ℕ) → Budget
-budget_given options = unwrap_or (budget_of options) (record { powers = 0 })
+budget_given options = unwrap_or (budget_of options) (record { powers = 0; curves = 0; tracks = 0 })
 
 abbrev pub seen : Command → CommandOfWords
 seen (Show source) = show (seen_source source)

@@ -1,10 +1,6 @@
--- The budget and the settings that the code reads, as the definitions see them.
-use Rattle.flipper_cli.specs.Options.{Budget as BudgetOfWords, Setting as SettingOfWords}
-use Rattle.flipper_cli.specs.declared.options.Budget.{Budget}
+-- The settings that the code reads, as the definitions see them.
+use Rattle.flipper_cli.specs.Options.{Setting as SettingOfWords}
 use Rattle.flipper_cli.specs.declared.options.Setting.{Setting}
-
-abbrev pub seen_budget : Budget → BudgetOfWords
-seen_budget budget = record { powers = budget.powers }
 
 abbrev pub seen_setting : Setting → SettingOfWords
 seen_setting setting = record { name = setting.name.now; number = setting.number.now }
