@@ -7,10 +7,10 @@
 //! `search` tries them in order. It promises that `Found` has the first candidate within the budget
 //! that passes all tests; that it is a multicurve below 2^126 with a free corner at each vertex; and
 //! that `None` has a line for each candidate, the first test that it fails. `cycles` gives exactly the
-//! cycles, in their order.
+//! cycles, in their order, and `cycle_coords` how often one crosses each edge: a multicurve.
 //!
 //! The definitions stand in `specs/`: `Cycles`, `Candidates` (how they are made, and their tests) and
-//! `CurveAnswers`; what holds of the images of multicurves under powers in `PowerLaws`.
+//! `CurveAnswers`; what holds of the images of multicurves under powers in `PowerLaws`. `specs/inside` serves private functions alone.
 //!
 //! ```text
 //! match search(alloc, &atlas, &path, 256)? {

@@ -5,7 +5,9 @@ ghost use Rattle.tri_atlas.specs.Arena.{Grows};
 ghost use Rattle.tri_atlas.specs.Paths.{IsPathIn};
 ghost use Rattle.multicurve_cert.specs.inside.Images.{AreAtBase};
 
+use crate::candidates::candidate;
 use crate::curve_search::{Curves, search_among};
+use crate::images::Images;
 use edge_coords::{Coords, CurveLine};
 use flip_move::flip;
 use ideal_tri::Tri;
@@ -213,5 +215,27 @@ fn sums_that_are_too_large(rt: HostRuntime) -> Result<(), Fail> {
     let large = [Coords::new(&atlas, atlas.base(), &[HALF, HALF, 0])?];
     let curves = search_among(rt.alloc(), &atlas, &path, &large, 24)?;
     assert!(rt; is_log(&curves, "MOOOOOOONNENNNENNNENNNEN"));
+    Ok(())
+}
+
+#[test]
+fn overflows_told_apart(rt: HostRuntime) -> Result<(), Fail> {
+    let mut atlas = Atlas::new(rt.alloc(), Tri::from_triples(&TORUS)?)?;
+    let path = twists(&rt, &mut atlas)?;
+    let vector = Coords::new(&atlas, atlas.base(), &[HALF, HALF, 0])?;
+    let mut images = Images::new(rt.alloc(), &atlas, &path, vector)?;
+    // the image of the candidate: no other image is needed
+    assert!(rt; candidate(&atlas, &path, &mut images, 0)? == Err(CurveLine::Overflow));
+    assert!(rt; images.list.len() == 1 && !images.ended);
+    // an image that is needed
+    assert!(rt; candidate(&atlas, &path, &mut images, 1)? == Err(CurveLine::Overflow));
+    assert!(rt; images.list.len() == 1 && images.ended);
+    // the sum: both images are there
+    let mut atlas = Atlas::new(rt.alloc(), Tri::from_triples(&TORUS)?)?;
+    let path = turn(&rt, &mut atlas)?;
+    let vector = Coords::new(&atlas, atlas.base(), &[HALF, HALF, 0])?;
+    let mut images = Images::new(rt.alloc(), &atlas, &path, vector)?;
+    assert!(rt; candidate(&atlas, &path, &mut images, 1)? == Err(CurveLine::Overflow));
+    assert!(rt; images.list.len() == 2 && !images.ended);
     Ok(())
 }

@@ -19,3 +19,6 @@ mod power_phase;
 
 pub use budget::Budget;
 pub use plan::classify;
+
+#[cfg(test)]
+mod tests;
