@@ -1,5 +1,5 @@
 -- The walks that are told of a triangulation's cycles have the letters of cycles.
-use Rattle.std.proofs.Common.{◌≡◌, sym, subst, ℤ, List, map}
+use Rattle.std.proofs.Common.{sym, subst, ℤ, List}
 use Rattle.std.specs.List.{All}
 use Rattle.std.proofs.lemmas.List.Elements.{All-map}
 use Rattle.free_groupoid.specs.Walks.{DualWalk, walk_of_letters}

@@ -1,5 +1,5 @@
 -- The limits of a budget.
-use Rattle.std.specs.Prelude.{◌≡◌, ◌≤◌, ℕ}
+use Rattle.std.specs.Prelude.{◌≤◌, ℕ}
 use Rattle.cert_text.specs.Holds.{order_limit}
 use Rattle.verdict_plan.specs.declared.budget.Budget.{Budget}
 

@@ -98,7 +98,7 @@ fn logs(rt: HostRuntime) -> Result<(), Fail> {
         is_unknown(
             &verdict_on(&rt, "S_1_1", "a.b", 12, 1)?,
             11,
-            Some((12, 317_809)),
+            Some((12, 351_363)),
             &[moved]
         )
     );

@@ -1,6 +1,6 @@
 -- The images of a vector under the powers of the word, listed in order as far as they have been
 -- needed.
-use Rattle.std.specs.Prelude.{◌≡◌, ◌<◌, ℕ, ℤ, List, [], Bool, true, length, slice_index_or}
+use Rattle.std.specs.Prelude.{◌≡◌, ◌<◌, ℕ, List, [], Bool, true, length, slice_index_or}
 use Rattle.tri_atlas.specs.Arena.{Arena, triangulation}
 use Rattle.tri_atlas.specs.Moves.{Move}
 use Rattle.edge_coords.specs.Coordinates.{Coordinates, AreCoordinatesIn}
