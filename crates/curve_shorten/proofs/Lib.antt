@@ -1,0 +1,9 @@
+pub mod FlippedTotals
+pub mod States
+pub mod RoundSteps
+pub mod Ways
+pub mod FlippedSides
+pub mod NewCorners
+pub mod CornerSteps
+pub mod FreeCorners
+pub mod SmallTotals

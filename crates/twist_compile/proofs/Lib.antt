@@ -1,0 +1,17 @@
+pub mod Sums
+pub mod AnnulusSides
+pub mod Exchange
+pub mod ExchangeCarries
+pub mod Descents
+pub mod Paths
+pub mod Compiled
+pub mod LowerLaws
+pub mod JoinedPaths
+pub mod AlongDescents
+pub mod Annuli
+pub mod ExchangedLabels
+pub mod ExchangeImages
+pub mod Slides
+pub mod TwistMoves
+pub mod TwistMaps
+pub mod Twists

@@ -1,0 +1,3 @@
+pub mod TwistPaths
+pub mod TwistLaws
+pub mod inside
