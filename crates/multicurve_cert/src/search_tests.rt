@@ -1,6 +1,7 @@
 //! The search on the once-punctured torus, over vectors that are given. Its cycles are `0 -2`,
 //! `0 -3` and `1 -3`.
-ghost use Rattle.std.specs.Prelude.{◌≡◌, All, IfOk, OnOk};
+ghost use Rattle.std.specs.Prelude.{◌≡◌, ◌<◌, All, IfOk, OnOk};
+ghost use Rattle.multicurve_cert.specs.Candidates.{kinds};
 ghost use Rattle.tri_atlas.specs.Arena.{Grows};
 ghost use Rattle.tri_atlas.specs.Paths.{IsPathIn};
 ghost use Rattle.multicurve_cert.specs.inside.Images.{AreAtBase};
@@ -12,7 +13,7 @@ use edge_coords::{Coords, CurveLine};
 use flip_move::flip;
 use ideal_tri::Tri;
 use relabel::{Relabelling, push};
-use std::alloc::AllocGlobal;
+use std::alloc::{AllocGlobal, Global};
 use std::process::Abort;
 use std::test::Fail;
 use tri_atlas::{Atlas, Path, atlas_laws};
@@ -218,24 +219,44 @@ fn sums_that_are_too_large(rt: HostRuntime) -> Result<(), Fail> {
     Ok(())
 }
 
+/// Whether the candidate of this kind, made of a vector that is given, overflows; and how many images
+/// there are then.
+fn overflows(
+    alloc: Global,
+    atlas: &Atlas,
+    word: &Path,
+    vector: Coords,
+    kind: u32,
+) -> Result<(bool, usize), Fail>
+    requires path { IsPathIn atlas.now word.now }
+    requires start { word.now.start ≡ 0 }
+    requires end { word.now.end ≡ 0 }
+    requires kind { kind < kinds }
+    requires vector { AreAtBase atlas.now vector }
+{
+    let mut images = Images::new(alloc, atlas, word, vector)?;
+    let overflows = candidate(atlas, word, &mut images, kind)?.is_err();
+    Ok((overflows, images.list.len()))
+}
+
 #[test]
-fn overflows_told_apart(rt: HostRuntime) -> Result<(), Fail> {
+fn overflow_of_an_image(rt: HostRuntime) -> Result<(), Fail> {
     let mut atlas = Atlas::new(rt.alloc(), Tri::from_triples(&TORUS)?)?;
     let path = twists(&rt, &mut atlas)?;
     let vector = Coords::new(&atlas, atlas.base(), &[HALF, HALF, 0])?;
-    let mut images = Images::new(rt.alloc(), &atlas, &path, vector)?;
-    // the image of the candidate: no other image is needed
-    assert!(rt; candidate(&atlas, &path, &mut images, 0)? == Err(CurveLine::Overflow));
-    assert!(rt; images.list.len() == 1 && !images.ended);
-    // an image that is needed
-    assert!(rt; candidate(&atlas, &path, &mut images, 1)? == Err(CurveLine::Overflow));
-    assert!(rt; images.list.len() == 1 && images.ended);
-    // the sum: both images are there
+    // the second image is needed, and isn't there
+    let (overflows, images) = overflows(rt.alloc(), &atlas, &path, vector, 1)?;
+    assert!(rt; overflows && images == 1);
+    Ok(())
+}
+
+#[test]
+fn overflow_of_a_sum(rt: HostRuntime) -> Result<(), Fail> {
     let mut atlas = Atlas::new(rt.alloc(), Tri::from_triples(&TORUS)?)?;
     let path = turn(&rt, &mut atlas)?;
     let vector = Coords::new(&atlas, atlas.base(), &[HALF, HALF, 0])?;
-    let mut images = Images::new(rt.alloc(), &atlas, &path, vector)?;
-    assert!(rt; candidate(&atlas, &path, &mut images, 1)? == Err(CurveLine::Overflow));
-    assert!(rt; images.list.len() == 2 && !images.ended);
+    // both images are there
+    let (overflows, images) = overflows(rt.alloc(), &atlas, &path, vector, 1)?;
+    assert!(rt; overflows && images == 2);
     Ok(())
 }
