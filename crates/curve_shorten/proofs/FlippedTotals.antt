@@ -11,7 +11,8 @@ use Rattle.ideal_tri.specs.Vectors.{IsMulticurve}
 use Rattle.tri_atlas.specs.Arena.{flip_of}
 use Rattle.tri_atlas.specs.Moves.{IsFlip}
 use Rattle.tri_atlas.specs.VectorLaws.{VectorLaws}
-use Rattle.curve_shorten.specs.Descents.{IsFlippableEdge, total_flipped, HasNoLower, IsBest}
+use Rattle.curve_shorten.specs.Descents.{total_flipped, HasNoLower, IsBest}
+use Rattle.tri_atlas.specs.FlipPaths.{IsFlippableEdge}
 use Rattle.curve_shorten.specs.inside.Rounds.{IsFlipOf, number_flipped}
 
 -- ---- one flip

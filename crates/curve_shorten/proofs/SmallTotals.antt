@@ -15,7 +15,7 @@ use Rattle.ideal_tri.specs.PeripheralParts.{HasFreeCorners}
 use Rattle.ideal_tri.specs.SurfaceLaws.{TriangleLaws}
 use Rattle.ideal_tri.specs.Triangulations.{IsTriangulation, IsLabel, next, previous}
 use Rattle.ideal_tri.specs.Vectors.{IsMulticurve, weight, corner_count}
-use Rattle.ideal_tri.specs.Vertices.{corner_step, corner_after}
+use Rattle.ideal_tri.specs.Vertices.{corner_step}
 use Rattle.curve_shorten.proofs.FlippedSides.{Given}
 use Rattle.curve_shorten.proofs.FreeCorners.{MeetsFree, meets_of}
 
@@ -57,11 +57,6 @@ none_crossed w none k d below = get_or_default w k d 0 below ∙ none k
 
 -- ---- a corner that is alone at its vertex
 
--- so many steps on is the same corner
-stays : (triples : List (List ℤ)) (n : ℕ) (x : ℤ) → corner_step triples x ≡ x → corner_after triples n x ≡ x
-stays triples zero x is = refl
-stays triples (suc n) x is = ap (corner_after triples n) is ∙ stays triples n x is
-
 module _ (g : Given) (triples : List (List ℤ)) (p : IsTriangulation triples) (w : List ℕ) (m : IsMulticurve triples w)
     (free : HasFreeCorners triples w) where
   t : TriangleLaws triples
@@ -74,7 +69,7 @@ module _ (g : Given) (triples : List (List ℤ)) (p : IsTriangulation triples) (
   alone_free : (x : ℤ) → IsLabel triples x → corner_step triples x ≡ x → corner_count triples w x ≡ 0
   alone_free x l is =
       let k : MeetsFree triples w x = meets_of triples w free x l in
-      sym (ap (corner_count triples w) (stays triples k.steps x is)) ∙ k.free
+      sym (ap (corner_count triples w) (t.alone k.steps x is)) ∙ k.free
 
   -- ---- one strand
 

@@ -15,8 +15,9 @@ use Rattle.tri_atlas.specs.Paths.{MovePath, IsPathIn, moves_of, then_move}
 use Rattle.tri_atlas.specs.VectorLaws.{VectorLaws}
 use Rattle.edge_coords.specs.Coordinates.{Coordinates, AreCoordinatesIn}
 use Rattle.edge_coords.specs.MovedCoordinates.{moved_by, moved_along}
-use Rattle.curve_shorten.specs.Descents.{IsFlippableEdge, total_flipped, vector_flipped, flips_along}
-use Rattle.curve_shorten.specs.FlippedCorners.{FlippedCornerLaws}
+use Rattle.curve_shorten.specs.Descents.{total_flipped, vector_flipped}
+use Rattle.tri_atlas.specs.FlipPaths.{IsFlippableEdge, flips_along}
+use Rattle.curve_shorten.specs.FlippedCornerLaws.{FlippedCornerLaws}
 use Rattle.curve_shorten.specs.ShortCurves.{total_limit}
 use Rattle.curve_shorten.specs.declared.short.Short.{Short}
 use Rattle.curve_shorten.specs.inside.States.{there, IsState, IsAlong, IsFlipIn, IsAfterFlip}

@@ -11,9 +11,10 @@ use Rattle.tri_atlas.specs.Arena.{Arena, triangulation, Grows}
 use Rattle.tri_atlas.specs.AtlasLaws.{GrowthLaws}
 use Rattle.tri_atlas.specs.Paths.{MovePath, empty_path, moves_of}
 use Rattle.edge_coords.specs.Coordinates.{Coordinates, AreCoordinatesIn, total_of}
-use Rattle.curve_shorten.specs.Descents.{HasEnded, IsDescent, flips_along}
+use Rattle.curve_shorten.specs.Descents.{HasEnded, IsDescent}
+use Rattle.tri_atlas.specs.FlipPaths.{flips_along}
 use Rattle.curve_shorten.specs.Descents.IsDescent.{ended}
-use Rattle.curve_shorten.specs.FlippedCorners.{FlippedCornerLaws}
+use Rattle.curve_shorten.specs.FlippedCornerLaws.{FlippedCornerLaws}
 use Rattle.curve_shorten.specs.ShortCurves.{IsSmall, IsOneCurve, IsShort, IsRefusedFor, total_limit}
 use Rattle.curve_shorten.specs.declared.short.ShortError.TheVariants.{Stuck}
 use Rattle.curve_shorten.specs.declared.short.Short.{Short}

@@ -1,16 +1,11 @@
 -- The descent of a curve: flips that make its total smaller, as far as that goes.
 use Rattle.std.specs.Prelude.{◌≡◌, ◌≢◌, ◌⊎◌, ◌<◌, ◌≤◌, ℕ, ℤ, pos, List, [], ◌∷◌, sum}
-use Rattle.ideal_tri.specs.Flips.{IsFlippable, flipped}
-use Rattle.ideal_tri.specs.Triangulations.{edge_count}
+use Rattle.ideal_tri.specs.Flips.{flipped}
 use Rattle.tri_atlas.specs.Arena.{flip_of}
+use Rattle.tri_atlas.specs.FlipPaths.{IsFlippableEdge}
 use Rattle.tri_atlas.specs.MovedVectors.{vector_after}
-use Rattle.tri_atlas.specs.Moves.{Move}
 
 -- ---- one flip
-
--- an edge between two different triangles
-abbrev pub IsFlippableEdge : List (List ℤ) → ℕ → Type 0
-IsFlippableEdge triples e = (e < edge_count triples) × IsFlippable triples (pos e)
 
 -- the vector after the flip of an edge, and its total
 abbrev pub vector_flipped : List (List ℤ) → List ℕ → ℕ → List ℕ
@@ -69,8 +64,3 @@ pub data IsDescent : List (List ℤ) → List ℕ → List ℕ → List (List �
       → IsDescent (flipped (flipped triples (pos e)) (pos f))
       (vector_flipped (flipped triples (pos e)) (vector_flipped triples w e) f) edges after v
       → IsDescent triples w (e ∷ (f ∷ edges)) after v
-
--- the moves of these flips
-abbrev pub flips_along : List (List ℤ) → List ℕ → List Move
-flips_along triples [] = []
-flips_along triples (e ∷ edges) = flip_of triples (pos e) ∷ flips_along (flipped triples (pos e)) edges

@@ -1,5 +1,5 @@
 pub mod Descents
 pub mod ShortCurves
-pub mod FlippedCorners
+pub mod FlippedCornerLaws
 pub mod Twists
 pub mod inside

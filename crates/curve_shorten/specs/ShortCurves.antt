@@ -6,7 +6,8 @@ use Rattle.tri_atlas.specs.Arena.{Arena, triangulation}
 use Rattle.tri_atlas.specs.Paths.{IsPathIn, moves_of}
 use Rattle.edge_coords.specs.Coordinates.{Coordinates, AreCoordinatesIn, total_of}
 use Rattle.edge_coords.specs.MovedCoordinates.{moved_along}
-use Rattle.curve_shorten.specs.Descents.{IsDescent, flips_along}
+use Rattle.curve_shorten.specs.Descents.{IsDescent}
+use Rattle.tri_atlas.specs.FlipPaths.{flips_along}
 use Rattle.curve_shorten.specs.declared.short.Short.{Short}
 use Rattle.curve_shorten.specs.declared.short.ShortError.{ShortError}
 use Rattle.curve_shorten.specs.declared.short.ShortError.TheVariants.{TotalOver, NotOneCurve, Peripheral, Stuck, Memory}

@@ -1,5 +1,5 @@
 //! What flips keep of corners.
-ghost use Rattle.curve_shorten.specs.FlippedCorners.{FlippedCornerLaws};
+ghost use Rattle.curve_shorten.specs.FlippedCornerLaws.{FlippedCornerLaws};
 
 use ideal_tri::{drawing_laws, flip_laws, label_laws, surface_laws};
 use tri_atlas::vector_laws;

@@ -8,7 +8,7 @@
 //! that ends above 2; and that otherwise the path is the stated one, and its end has the total 2.
 //!
 //! The definitions stand in `specs/`: `Descents`, `ShortCurves`, the twist along a descent in
-//! `Twists`, and what flips keep of corners in `FlippedCorners`.
+//! `Twists`, and what flips keep of corners in `FlippedCornerLaws`.
 #![tactic(auto)]
 
 mod corner_laws;

@@ -7,7 +7,8 @@ ghost use Rattle.ideal_tri.specs.Labels.{inverse, edge_of};
 ghost use Rattle.ideal_tri.specs.Flips.{IsFlippable, flipped};
 ghost use Rattle.ideal_tri.specs.Vectors.{IsMulticurve, weight};
 ghost use Rattle.curve_shorten.specs.ShortCurves.{total_limit};
-ghost use Rattle.curve_shorten.specs.Descents.{IsFlippableEdge, total_flipped, vector_flipped};
+ghost use Rattle.curve_shorten.specs.Descents.{total_flipped, vector_flipped};
+ghost use Rattle.tri_atlas.specs.FlipPaths.{IsFlippableEdge};
 ghost use Rattle.curve_shorten.specs.Descents.{HasNoLower, IsBest, IsLevel, IsFirstLevel};
 ghost use Rattle.curve_shorten.specs.inside.Rounds.{IsBestBefore, IsFlipOf, number_flipped};
 

@@ -10,7 +10,6 @@ use Rattle.ideal_tri.specs.Words.{inverse_word, IsReduced, reduce}
 use Rattle.free_groupoid.proofs.Known.{Known}
 use Rattle.free_groupoid.proofs.Names.{+0, +1, -1, +2, -2, by_fact}
 use Rattle.free_groupoid.proofs.Carrying.{Carries, carries_by}
-use Rattle.free_groupoid.proofs.Reduced.{IsReduced-parts}
 use Rattle.free_groupoid.proofs.Powers.{Only, power_commutes, power_alone}
 use Rattle.free_groupoid.proofs.Splits.{front, front_split}
 use Rattle.free_groupoid.proofs.PowerSplit.{power_split}
@@ -44,12 +43,12 @@ module _ (known : Known) where
       power_split known x y p split.rest [] n parts_reduced split.only split.apart
       (subst (λ (z : List ℤ). Carries [] (x ∷ (z ++ (y ∷ inverse_word z))) (x ∷ (y ∷ []))) split.parts pair) in
       let no_rest : split.rest ≡ [] =
-      power_alone known x y split.rest n only_y (IsReduced-parts p split.rest parts_reduced).1
+      power_alone known x y split.rest n only_y (known.words.reduction.back p split.rest parts_reduced)
       (rest_commutes x p split.rest (power_commutes known x p split.only)
       (subst (λ (z : List ℤ). Carries z (x ∷ []) (x ∷ [])) split.parts with_x)) in
       let all_front : u ≡ p = split.parts ∙ ap (λ (z : List ℤ). p ++ z) no_rest ∙ append-nil p in
       all_front
-      ∙ power_alone known y x p (λ e. n (sym e)) split.only (IsReduced-parts p split.rest parts_reduced).0
+      ∙ power_alone known y x p (λ e. n (sym e)) split.only (known.words.reduction.front p split.rest parts_reduced)
       (subst (λ (z : List ℤ). Carries z (y ∷ []) (y ∷ [])) all_front with_y)
 
   pub centraliser : (x y : ℤ) (q : List ℤ) → edge_of x ≢ edge_of y → Carries q (x ∷ []) (x ∷ [])

@@ -23,7 +23,6 @@ use Rattle.free_groupoid.proofs.Loops.{loop_closed, collapse-loop}
 use Rattle.free_groupoid.proofs.Telescope.{IsIn, walk_letters}
 use Rattle.free_groupoid.proofs.OuterEdges.{edge_outer}
 use Rattle.free_groupoid.proofs.TestLists.{each_test}
-use Rattle.free_groupoid.proofs.Walks.{closed_core}
 
 module _ (triples : List (List ℤ)) (l : Laws triples) where
   -- ---- the cyclic reduction of a closed walk
@@ -88,7 +87,7 @@ module _ (triples : List (List ℤ)) (l : Laws triples) where
       → flat_map (collapse triples r) w ≡ x ∷ rest
       → IsReduced (x ∷ rest) → IsReducedLoop triples (cyclic_reduce w)
   reduced_loop r s w x rest walk collapsed reduced =
-      go (cyclic_reduce w) refl (closed_core triples l.walks l.known.words s w walk) (l.known.words.cyclic.is_reduced w)
+      go (cyclic_reduce w) refl (l.walks.core s w walk) (l.known.words.cyclic.is_reduced w)
     where
       go : (v : List ℤ) → cyclic_reduce w ≡ v → (t : ℕ) × IsWalk triples t (cyclic_reduce w) t
           → IsCyclicallyReduced (cyclic_reduce w)

@@ -118,7 +118,7 @@ module _ (labels : LabelLaws) (words : WordLaws) (surface : SurfaceLaws) (mappin
             (mapping.substitutions.agree (substitution step.images) (path_map (moves_of arena path)) (get_or f.images n [])
             (λ k d below. path_letter path (get_or (get_or f.images n []) k d) p
             (subst (λ (t : ℕ). All (IsLabel (triangulation arena t)) (get_or f.images n [])) (sym follows)
-            (image_labels arena f h n [] place) k d below)))
+            (image_labels arena surface f h n [] place) k d below)))
             ∙ sym (along_letter labels words surface mapping atlas arena f path.moves (pos n) h.reduced)
 
         same_triangles : (k : ℕ) → k < length (map (vertex_image step) f.triangles)

@@ -19,7 +19,6 @@ use Rattle.free_groupoid.specs.inside.InnerPaths.{is_outer_at, collapse, collaps
 use Rattle.free_groupoid.specs.inside.InnerPaths.{conjugator, root_path, inner_path}
 use Rattle.free_groupoid.specs.inside.ComputedWalks.{root_word}
 use Rattle.free_groupoid.proofs.Known.{Known, Laws}
-use Rattle.free_groupoid.proofs.Walks.{walk_labels}
 use Rattle.free_groupoid.proofs.Collapse.{collapse-odd}
 use Rattle.free_groupoid.proofs.Loops.{loop_closed}
 use Rattle.free_groupoid.proofs.ComputedPaths.{own_root, root_below}
@@ -106,8 +105,7 @@ images_count triples f h = h.map.one_per_edge ∙ ap edge_count h.source
 pub loop_labels : (triples : List (List ℤ)) → Laws triples → (x : ℤ) → IsLabel triples x
     → All (IsLabel triples) (loop triples x)
 loop_labels triples l x label =
-    walk_labels triples (root_of triples (triangle_of triples x)) (root_of triples (triangle_of triples x)) (loop
-    triples x)
+    l.letters (root_of triples (triangle_of triples x)) (root_of triples (triangle_of triples x)) (loop triples x)
     (loop_closed triples l x (root_of triples (triangle_of triples x)) label refl)
 
 -- the letters of a word of labels have images
@@ -179,7 +177,7 @@ module _ (triples : List (List ℤ)) (f : GroupoidMap) where
       → IsBelow (length f.images) tree
   tree_below l t tree h inside is_tree =
       labels_below triples f tree h
-      (subst (All (IsLabel triples)) (sym is_tree) (walk_labels triples (root_of triples t) t (tree_walk triples t)
+      (subst (All (IsLabel triples)) (sym is_tree) (l.letters (root_of triples t) t (tree_walk triples t)
       (l.forest.walk t inside)))
 
   -- the walk from t

@@ -4,20 +4,20 @@ use Rattle.std.proofs.Common.{ℕ, ℤ, pos, List, [], ◌≡◌, ◌<◌, sym, 
 use Rattle.std.specs.Global.{Global}
 use Rattle.std.specs.List.{All}
 use Rattle.std.proofs.lemmas.List.{get_or_default, length-map}
+use Rattle.ideal_tri.specs.SurfaceLaws.{SurfaceLaws}
 use Rattle.ideal_tri.specs.Triangulations.{IsLabel}
 use Rattle.tri_atlas.specs.Arena.{Arena, triangulation}
 use Rattle.free_groupoid.specs.Walks.{DualWalk, IsWalkOn}
 use Rattle.free_groupoid.specs.GroupoidMaps.{GroupoidMap, IsMapIn}
 use Rattle.free_groupoid.specs.inside.Images.{words_of, IsBelow}
-use Rattle.free_groupoid.proofs.Walks.{walk_labels}
 
 module _ (arena : Arena) where
-  pub image_labels : (f : GroupoidMap) → IsMapIn arena f
+  pub image_labels : SurfaceLaws → (f : GroupoidMap) → IsMapIn arena f
       → All (λ w. All (IsLabel (triangulation arena f.target)) w) f.images
-  image_labels f h = λ n d inside.
+  image_labels surface f h = λ n d inside.
       let label : IsLabel (triangulation arena f.source) (pos n) = subst (λ (k : ℕ). n < k) h.one_per_edge inside in
       subst (λ (w : List ℤ). All (IsLabel (triangulation arena f.target)) w) (get_or_default f.images n [] d inside)
-      (walk_labels _ _ _ _ (h.maps.walks (pos n) label))
+      (surface.letters _ _ _ _ (h.maps.walks (pos n) label))
 
   pub target_images : (f : GroupoidMap) → IsMapIn arena f
       → All (λ t. t < length (triangulation arena f.target)) f.triangles
@@ -27,17 +27,18 @@ module _ (arena : Arena) where
 
   -- ---- letters have images
 
-  pub walk_below : (f : GroupoidMap) (w : DualWalk) → IsMapIn arena f → IsWalkOn (triangulation arena f.source) w
+  pub walk_below : SurfaceLaws → (f : GroupoidMap) (w : DualWalk) → IsMapIn arena f
+      → IsWalkOn (triangulation arena f.source) w
       → IsBelow (length f.images) w.letters
-  walk_below f w h walk =
-      subst (λ (n : ℕ). IsBelow n w.letters) (sym h.one_per_edge) (walk_labels _ _ _ _ walk.leads)
+  walk_below surface f w h walk =
+      subst (λ (n : ℕ). IsBelow n w.letters) (sym h.one_per_edge) (surface.letters _ _ _ _ walk.leads)
 
-  pub images_below : (f g : GroupoidMap) → IsMapIn arena f → IsMapIn arena g → g.source ≡ f.target
+  pub images_below : SurfaceLaws → (f g : GroupoidMap) → IsMapIn arena f → IsMapIn arena g → g.source ≡ f.target
       → All (IsBelow (length g.images)) f.images
-  images_below f g h k follows = λ n d inside.
+  images_below surface f g h k follows = λ n d inside.
       subst (λ (m : ℕ). IsBelow m (get_or f.images n d)) (sym k.one_per_edge)
-      (subst (λ (t : ℕ). All (IsLabel (triangulation arena t)) (get_or f.images n d)) (sym follows) (image_labels f h n
-      d inside))
+      (subst (λ (t : ℕ). All (IsLabel (triangulation arena t)) (get_or f.images n d)) (sym follows) (image_labels surface
+      f h n d inside))
 
 -- triangles of the one map are those that the other maps
 pub triangles_within : (arena : Arena) (f g : GroupoidMap) → IsMapIn arena f → IsMapIn arena g → g.source ≡ f.target

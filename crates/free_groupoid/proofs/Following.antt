@@ -4,6 +4,7 @@ use Rattle.std.specs.Global.{Global}
 use Rattle.std.specs.List.{All}
 use Rattle.std.proofs.lemmas.List.{length-take-le}
 use Rattle.ideal_tri.specs.Labels.{edge_of}
+use Rattle.ideal_tri.specs.SurfaceLaws.{SurfaceLaws}
 use Rattle.ideal_tri.specs.Triangulations.{edge_count}
 use Rattle.ideal_tri.specs.declared.tri.TheConstants.{EDGES}
 use Rattle.tri_atlas.specs.Moves.{Move, IsMove, triangle_image}
@@ -20,18 +21,19 @@ few_edges arena t sound here =
     let few : edge_count (triangulation arena 0) ≤ EDGES = sound.few in
     omega arith
 
-pub images_few : (arena : Arena) (f : GroupoidMap) → IsArena arena → IsMapIn arena f → All (IsBelow EDGES) f.images
-images_few arena f sound h = λ n d inside k e within.
+pub images_few : SurfaceLaws → (arena : Arena) (f : GroupoidMap) → IsArena arena → IsMapIn arena f
+    → All (IsBelow EDGES) f.images
+images_few surface arena f sound h = λ n d inside k e within.
     let label : edge_of (get_or (get_or f.images n d) k e) < edge_count (triangulation arena f.target) = image_labels
-    arena f h n d inside k e within in
+    arena surface f h n d inside k e within in
     let few : edge_count (triangulation arena f.target) ≤ EDGES = few_edges arena f.target sound h.target_in in
     omega arith
 
 module _ (arena : Arena) (f : GroupoidMap) (m : MoveHandle) (h : IsMapIn arena f) (follows : source_of arena m
     ≡ f.target) where
-  pub images_labelled : All (IsBelow (edge_count (triangulation arena (source_of arena m)))) f.images
-  images_labelled = subst (λ (t : ℕ). All (IsBelow (edge_count (triangulation arena t))) f.images) (sym follows)
-      (image_labels arena f h)
+  pub images_labelled : SurfaceLaws → All (IsBelow (edge_count (triangulation arena (source_of arena m)))) f.images
+  images_labelled surface = subst (λ (t : ℕ). All (IsBelow (edge_count (triangulation arena t))) f.images) (sym follows)
+      (image_labels arena surface f h)
 
   pub followed_images : (vectors seen made : List (Vec ℤ Global)) (step : Move) → words_of vectors ≡ f.images
       → seen ≡ vectors

@@ -32,7 +32,6 @@ use Rattle.free_groupoid.proofs.Along.{along_many}
 use Rattle.free_groupoid.proofs.InnerPowers.{inner_same}
 use Rattle.free_groupoid.proofs.Known.{Known}
 use Rattle.free_groupoid.proofs.MapsIn.{identity_triangle}
-use Rattle.free_groupoid.proofs.Walks.{walk_labels}
 
 -- ---- maps that agree at labels
 
@@ -43,9 +42,10 @@ letters_agree (suc n) f g same =
     ap (λ (m : ℕ). m + length (f (pos n))) (letters_agree n f g (λ k below. same k (omega arith)))
     ∙ ap (λ (w : List ℤ). letters_below n g + length w) (same n (omega arith))
 
-loop_labels : (triples : List (List ℤ)) (w : List ℤ) → IsReducedLoop triples w → All (IsLabel triples) w
-loop_labels triples [] loop = absurd loop
-loop_labels triples (x ∷ w) loop = walk_labels triples (triangle_of triples x) (triangle_of triples x) (x ∷ w) loop.0
+loop_labels : SurfaceLaws → (triples : List (List ℤ)) (w : List ℤ) → IsReducedLoop triples w → All (IsLabel triples) w
+loop_labels surface triples [] loop = absurd loop
+loop_labels surface triples (x ∷ w) loop =
+    surface.letters triples (triangle_of triples x) (triangle_of triples x) (x ∷ w) loop.0
 
 kept_same : SubstitutionLaws → (triples : List (List ℤ)) (f g : ℤ → List ℤ) (w : List ℤ)
     → ((x : ℤ) → IsLabel triples x → f x ≡ g x) → All (IsLabel triples) w → IsKept f w → IsKept g w
@@ -178,12 +178,12 @@ module _ (known : Known) (surface : SurfaceLaws) (atlas : AtlasLaws) (groupoid :
             (kept_same known.maps.substitutions triples (path_map (moves_of arena path)) (substitution along.images)
             w.letters same_letters_back
             (subst (All (IsLabel triples)) (sym walk_is)
-            (loop_labels triples (get_or (test_walks triples) h.place []) (loops h.place [] h.within))) kept);
+            (loop_labels surface triples (get_or (test_walks triples) h.place []) (loops h.place [] h.within))) kept);
         before = λ k d below.
             let v : List ℤ = get_or (take h.place (test_walks triples)) k d in
             kept_same known.maps.substitutions triples (substitution along.images) (path_map (moves_of arena path)) v
             same_letters
-            (loop_labels triples v (All-take (IsReducedLoop triples) h.place (test_walks triples) loops k d below))
+            (loop_labels surface triples v (All-take (IsReducedLoop triples) h.place (test_walks triples) loops k d below))
             (h.before k d below);
       }
 

@@ -26,7 +26,6 @@ use Rattle.free_groupoid.specs.InnerLaws.{InnerLaws, IsReducedLoop}
 use Rattle.free_groupoid.specs.inside.Images.{words_of, IsBelow}
 use Rattle.free_groupoid.specs.inside.InnerPaths.{root_path, inner_path}
 use Rattle.free_groupoid.specs.inside.ComputedWalks.{path_from}
-use Rattle.free_groupoid.proofs.Walks.{walk_labels}
 use Rattle.free_groupoid.proofs.ComputedWords.{labels_below}
 
 -- an iterator that is at its end
@@ -84,10 +83,11 @@ module _ (triples : List (List ℤ)) (f : GroupoidMap) where
       (subst (λ (ts : List (List ℤ)). IsMap ts (triangulation h.arena f.target) (substitution f.images) (vertex_image
       f)) h.source h.map.maps)
 
-  pub loop_below : (w : List ℤ) → IsSelfMap triples f → IsReducedLoop triples w → IsBelow (length f.images) w
-  loop_below [] h none = absurd none
-  loop_below (x ∷ w) h loops =
-      labels_below triples f (x ∷ w) h (walk_labels triples (triangle_of triples x) (triangle_of triples x) (x ∷ w)
+  pub loop_below : SurfaceLaws → (w : List ℤ) → IsSelfMap triples f → IsReducedLoop triples w
+      → IsBelow (length f.images) w
+  loop_below surface [] h none = absurd none
+  loop_below surface (x ∷ w) h loops =
+      labels_below triples f (x ∷ w) h (surface.letters triples (triangle_of triples x) (triangle_of triples x) (x ∷ w)
       loops.0)
 
   moved_here : InnerLaws → IsTriangulation triples → IsSelfMap triples f

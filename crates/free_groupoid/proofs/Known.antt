@@ -1,8 +1,9 @@
 -- What is known from the layers below: of labels, words and maps, and of a triangulation.
-use Rattle.std.proofs.Common.{ℤ, List}
+use Rattle.std.proofs.Common.{ℕ, ℤ, List}
+use Rattle.std.specs.List.{All}
 use Rattle.ideal_tri.specs.LabelLaws.{LabelLaws}
 use Rattle.ideal_tri.specs.WordLaws.{WordLaws}
-use Rattle.ideal_tri.specs.Triangulations.{IsTriangulation}
+use Rattle.ideal_tri.specs.Triangulations.{IsTriangulation, IsLabel, IsWalk}
 use Rattle.ideal_tri.specs.SurfaceLaws.{SurfaceLaws, TriangleLaws, WalkLaws}
 use Rattle.tri_atlas.specs.MapLaws.{MapLaws}
 use Rattle.free_groupoid.specs.ForestLaws.{ForestLaws}
@@ -19,6 +20,7 @@ pub record Glued (triples : List (List ℤ)) : Type 0 where
   pub triangulation : IsTriangulation triples
   pub triangles : TriangleLaws triples
   pub walks : WalkLaws triples
+  pub letters : (s t : ℕ) (w : List ℤ) → IsWalk triples s w t → All (IsLabel triples) w
 
 -- and of its forest
 pub record Laws (triples : List (List ℤ)) : Type 0 where
@@ -26,6 +28,7 @@ pub record Laws (triples : List (List ℤ)) : Type 0 where
   pub triangulation : IsTriangulation triples
   pub triangles : TriangleLaws triples
   pub walks : WalkLaws triples
+  pub letters : (s t : ℕ) (w : List ℤ) → IsWalk triples s w t → All (IsLabel triples) w
   pub forest : ForestLaws triples
 
 pub glued : Known → SurfaceLaws → (triples : List (List ℤ)) → IsTriangulation triples → Glued triples
@@ -34,11 +37,18 @@ glued known surface triples tri = record {
   triangulation = tri;
   triangles = surface.triangles triples tri;
   walks = surface.walks triples tri;
+  letters = surface.letters triples;
 }
 
 abbrev pub glue_of : (triples : List (List ℤ)) → Laws triples → Glued triples
 glue_of triples l =
-    record { known = l.known; triangulation = l.triangulation; triangles = l.triangles; walks = l.walks }
+    record {
+      known = l.known;
+      triangulation = l.triangulation;
+      triangles = l.triangles;
+      walks = l.walks;
+      letters = l.letters;
+    }
 
 pub with_forest : (triples : List (List ℤ)) → Glued triples → ForestLaws triples → Laws triples
 with_forest triples glue forest = record {
@@ -46,5 +56,6 @@ with_forest triples glue forest = record {
   triangulation = glue.triangulation;
   triangles = glue.triangles;
   walks = glue.walks;
+  letters = glue.letters;
   forest = forest;
 }

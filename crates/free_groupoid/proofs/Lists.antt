@@ -1,9 +1,12 @@
 -- Lists of words held in vectors, and a function of each of them.
 use Rattle.std.proofs.Common.{ℕ, ℤ, List, [], ◌∷◌, ◌++◌, ◌≡◌, ◌+◌, ◌<◌, ◌≤◌, sym, ◌∙◌, ap, subst, length, map, take}
-use Rattle.std.proofs.Common.{get_or, Vec}
+use Rattle.std.proofs.Common.{get_or, Vec, pos, negsuc, ◌≤ℤ◌, ◌<ℤ◌, arith}
 use Rattle.std.specs.Global.{Global}
 use Rattle.std.specs.List.{All}
 use Rattle.std.proofs.lemmas.List.{take_all, map_push, map_more, get_or-map, length-map}
+use Rattle.ideal_tri.specs.Labels.{edge_of}
+use Rattle.ideal_tri.specs.Words.{inverse_word}
+use Rattle.free_groupoid.specs.GroupoidMaps.{substitution}
 use Rattle.free_groupoid.specs.inside.Images.{words_of}
 
 -- a word that was read from the vectors, as it stands among the words
@@ -17,6 +20,20 @@ word_read vectors word i d inside is_word =
 pub inside_words : (vectors : List (Vec ℤ Global)) (i : ℕ) → i < length vectors → i < length (words_of vectors)
 inside_words vectors i inside = subst (λ (n : ℕ). i < n) (sym (length-map vectors (λ (v : Vec ℤ Global). v.items)))
     inside
+
+-- the image of a label is the word of its edge, or the way back along it
+pub image_on : (vectors : List (Vec ℤ Global)) (word : Vec ℤ Global) (x : ℤ) (e : ℕ) → pos 0 ≤ℤ x → e ≡ edge_of x
+    → e < length vectors → word ≡ get_or vectors e word → word.items ≡ substitution (words_of vectors) x
+image_on vectors word (pos n) e high is_e inside is_word =
+    sym (word_read vectors word e [] inside is_word) ∙ ap (λ (k : ℕ). get_or (words_of vectors) k []) is_e
+image_on vectors word (negsuc n) e high is_e inside is_word = absurd (grind arith)
+
+pub image_back : (vectors : List (Vec ℤ Global)) (word : Vec ℤ Global) (x : ℤ) (e : ℕ) → x <ℤ pos 0 → e ≡ edge_of x
+    → e < length vectors → word ≡ get_or vectors e word → inverse_word word.items ≡ substitution (words_of vectors) x
+image_back vectors word (pos n) e low is_e inside is_word = absurd (grind arith)
+image_back vectors word (negsuc n) e low is_e inside is_word =
+    ap inverse_word (sym (word_read vectors word e [] inside is_word)
+    ∙ ap (λ (k : ℕ). get_or (words_of vectors) k []) is_e)
 
 -- what holds of each of the words holds of one that was read
 pub held_by_word : (P : List ℤ → Type 0) (vectors : List (Vec ℤ Global)) (word : Vec ℤ Global) (i : ℕ)

@@ -12,7 +12,7 @@ use Rattle.ideal_tri.specs.Words.{inverse_word, IsReduced, reduce, cyclic_reduce
 use Rattle.free_groupoid.proofs.Known.{Known}
 use Rattle.free_groupoid.proofs.Names.{+0, +1, +2, -2, +3, -3, +4, -4, +5, +6, -6, by_fact}
 use Rattle.free_groupoid.proofs.Carrying.{Carries, carries-rotation}
-use Rattle.free_groupoid.proofs.Reduced.{IsReduced-parts, IsReduced-join, IsReduced-inverse_word, apart}
+use Rattle.free_groupoid.proofs.Reduced.{IsReduced-join, apart}
 use Rattle.free_groupoid.proofs.Powers.{Only, StartsApart, power_commutes}
 use Rattle.free_groupoid.proofs.Splits.{end_split}
 
@@ -37,7 +37,7 @@ product_cyclic known x y w m l h t ends starts n_x n_y reduced =
         (sym (ap (λ (z : List ℤ). z ++ (x ∷ [])) (ap inverse_word starts) ∙ append_assoc (inverse_word t)
         (inverse h ∷ []) (x ∷ [])))
         (IsReduced-join known (inverse_word t) (inverse h) x [] (λ e. n_x (sym (known.labels.edge h) ∙ sym e))
-        (subst IsReduced (ap inverse_word starts) (IsReduced-inverse_word known w reduced)) tt)
+        (subst IsReduced (ap inverse_word starts) (known.words.reduction.turned w reduced)) tt)
 
     -- y w⁻¹ x
     from_y : IsReduced (y ∷ (back ++ (x ∷ [])))
@@ -140,8 +140,8 @@ module _ (known : Known) where
             split.parts ∙ sym (append_assoc split.before (split.last ∷ []) split.end) in
             absurd
             (nothing_left x y split.before split.last split.end (inverse_word p ++ q) n
-            (IsReduced-parts (split.before ++ (split.last ∷ [])) split.end
-            (subst IsReduced parts (IsReduced-parts p w reduced).1)).0
+            (known.words.reduction.front (split.before ++ (split.last ∷ [])) split.end
+            (subst IsReduced parts (known.words.reduction.back p w reduced)))
             (subst (StartsApart x) split.parts start_x) split.apart
             (taken_off known x y (p ++ w) p (split.before ++ (split.last ∷ [])) split.end q
             (ap (λ (z : List ℤ). p ++ z) parts) only split.only carries)))

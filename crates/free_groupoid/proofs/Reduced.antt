@@ -1,20 +1,10 @@
--- Reduced words: their parts, how two are glued, and words whose letters all have a property.
-use Rattle.std.proofs.Common.{ℤ, List, [], ◌∷◌, ◌++◌, ◌≢◌, ◌∙◌, ap, subst}
+-- Reduced words: how two are glued, and words whose letters all have a property.
+use Rattle.std.proofs.Common.{ℤ, List, [], ◌∷◌, ◌++◌, ◌≢◌, ◌∙◌, ap}
 use Rattle.std.specs.List.{All}
 use Rattle.std.proofs.lemmas.List.Elements.{All-nil, All-cons, All-head, All-tail, All-append}
 use Rattle.ideal_tri.specs.Labels.{inverse, edge_of}
 use Rattle.ideal_tri.specs.Words.{inverse_word, IsReduced, reduce, Deletes, DeletesAll, pair, done, more}
 use Rattle.free_groupoid.proofs.Known.{Known}
-
--- ---- parts
-
-pub IsReduced-parts : (u v : List ℤ) → IsReduced (u ++ v) → IsReduced u × IsReduced v
-IsReduced-parts [] v h = (tt, h)
-IsReduced-parts (x ∷ []) [] h = (tt, tt)
-IsReduced-parts (x ∷ []) (y ∷ v) h = (tt, h.1)
-IsReduced-parts (x ∷ (y ∷ u)) v h =
-    let rest = IsReduced-parts (y ∷ u) v h.1 in
-    ((h.0, rest.0), rest.1)
 
 -- ---- neighbours of different edges
 
@@ -25,16 +15,7 @@ apart known x y n e = n (ap edge_of e ∙ known.labels.edge y)
 pub IsReduced-join : Known → (u : List ℤ) (x y : ℤ) (v : List ℤ) → edge_of y ≢ edge_of x → IsReduced (u ++ (x ∷ []))
     → IsReduced (y ∷ v)
     → IsReduced (u ++ (x ∷ (y ∷ v)))
-IsReduced-join known [] x y v n h k = (apart known y x n, k)
-IsReduced-join known (z ∷ []) x y v n h k = (h.0, (apart known y x n, k))
-IsReduced-join known (z ∷ (a ∷ u)) x y v n h k = (h.0, IsReduced-join known (a ∷ u) x y v n h.1 k)
-
--- ---- the way back
-
-pub IsReduced-inverse_word : Known → (w : List ℤ) → IsReduced w → IsReduced (inverse_word w)
-IsReduced-inverse_word known w h =
-    subst IsReduced (known.words.reduction.inverse w ∙ ap inverse_word (known.words.reduction.fixed w h))
-    (known.words.reduction.is_reduced (inverse_word w))
+IsReduced-join known u x y v n h k = known.words.reduction.glue u x (y ∷ v) h (apart known y x n, k)
 
 -- ---- letters
 

@@ -103,7 +103,7 @@ module _ (labels : LabelLaws) (words : WordLaws) (surface : SurfaceLaws) (mappin
           word_undone before target step (get_or f.images k d) (sound.sound (source_of arena m) ends.0) (sound.sound
           (target_of arena m) ends.1) move
           (subst (λ (t : ℕ). All (IsLabel (triangulation arena t)) (get_or f.images k d)) (sym follows) (image_labels
-          arena f h k d inside))
+          arena surface f h k d inside))
           (h.reduced k d inside))
 
       triangles_back : map (triangle_image (triangulation arena (source_of arena (back m))) (triangulation arena

@@ -1,5 +1,5 @@
 -- Reduced words and the letters put behind them, from the laws of the reduction.
-use Rattle.std.proofs.Common.{ℤ, List, [], ◌∷◌, ◌++◌, ◌≡◌, ◌≢◌, sym, ◌∙◌, ap}
+use Rattle.std.proofs.Common.{ℤ, List, [], ◌∷◌, ◌++◌, ◌≡◌, ◌≢◌, sym, ◌∙◌, ap, subst, append_assoc}
 use Rattle.ideal_tri.specs.Labels.{inverse}
 use Rattle.ideal_tri.specs.Words.{IsReduced, reduce}
 use Rattle.ideal_tri.specs.LabelLaws.{LabelLaws}
@@ -8,11 +8,12 @@ use Rattle.ideal_tri.specs.WordLaws.{ReductionLaws}
 -- ---- reduced words
 
 -- a letter may follow a reduced word whose last letter is not its inverse
-pub IsReduced-append_letter : LabelLaws → (u : List ℤ) (y x : ℤ) → IsReduced (u ++ (y ∷ [])) → y ≢ inverse x
+pub IsReduced-append_letter : LabelLaws → ReductionLaws → (u : List ℤ) (y x : ℤ) → IsReduced (u ++ (y ∷ []))
+    → y ≢ inverse x
     → IsReduced ((u ++ (y ∷ [])) ++ (x ∷ []))
-IsReduced-append_letter l [] y x h n = (λ e. n (sym (l.twice y) ∙ ap inverse (sym e)), tt)
-IsReduced-append_letter l (z ∷ []) y x h n = (h.0, IsReduced-append_letter l [] y x tt n)
-IsReduced-append_letter l (z ∷ (z' ∷ u)) y x h n = (h.0, IsReduced-append_letter l (z' ∷ u) y x h.1 n)
+IsReduced-append_letter l r u y x h n =
+    subst IsReduced (sym (append_assoc u (y ∷ []) (x ∷ [])))
+    (r.glue u y (x ∷ []) h (λ e. n (sym (l.twice y) ∙ ap inverse (sym e)), tt))
 
 -- ---- reductions of words that are put together
 

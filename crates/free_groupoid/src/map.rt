@@ -20,7 +20,7 @@ use crate::triangles::{
     TRIANGLES, composed_triangles, identity_triangles, image_triangles, moved_triangles,
 };
 use crate::walk::Walk;
-use ideal_tri::{Label, Memory};
+use ideal_tri::{Label, Memory, surface_laws};
 use smallvec::SmallVec;
 use std::alloc::Global;
 use std::marker::Model;
@@ -156,6 +156,7 @@ impl Map {
         ensures maps { IsMapIn atlas.now self.new }
     {
         let _ = atlas.base();
+        surface_laws();
         atlas_laws();
         groupoid_laws();
         let step = atlas.step(m);
@@ -202,6 +203,7 @@ impl Map {
         ensures maps { IfOk result (λ f. (arena : Arena) → IsArena arena → IsMapIn arena self.now
             → IsMapIn arena next.now → IsMapIn arena f) }
     {
+        surface_laws();
         groupoid_laws();
         let images = composed_words(alloc, self.images.as_slice(), next.images.as_slice())?;
         if let Some(letters) = letters_past(images.as_slice(), cap) {
@@ -228,6 +230,7 @@ impl Map {
             → IsWalkOn (triangulation arena self.now.source) w.now
             → IsWalkOn (triangulation arena self.now.target) v) }
     {
+        surface_laws();
         groupoid_laws();
         Ok(Walk {
             start: self.vertex(w.start),

@@ -9,7 +9,7 @@ ghost use Rattle.free_groupoid.specs.WalkRefusals.{IsRefusedFor};
 ghost use Rattle.free_groupoid.specs.inside.Turns.{turn_of, TurnsEach};
 
 use crate::word;
-use ideal_tri::{Label, Tri, surface_laws, word_laws};
+use ideal_tri::{Label, Tri, letter_laws, surface_laws, word_laws};
 use std::alloc::{AllocError, Global};
 use std::marker::Model;
 
@@ -113,6 +113,7 @@ pub fn is_peripheral(tri: &Tri, w: &Walk) -> bool
     requires { IsClosedOn tri.now w.now }
     ensures { IsTrue result ↔ IsPeripheral tri.now w.now.letters }
 {
+    surface_laws();
     turns(tri, &w.letters, true) || turns(tri, &w.letters, false)
 }
 
@@ -121,7 +122,7 @@ fn turns(tri: &Tri, letters: &[Label], on: bool) -> bool
     requires { All (IsLabel tri.now) letters.now }
     ensures { IsTrue result ↔ ((letters.now ≢ []) × TurnsEach tri.now on letters.now) }
 {
-    word_laws();
+    letter_laws();
     let count = letters.len();
     if count == 0 {
         return false;

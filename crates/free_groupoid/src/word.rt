@@ -3,13 +3,14 @@ ghost use Rattle.std.specs.Prelude.{◌≡◌, ◌↔◌, ◌≤◌, ◌-◌, �
 ghost use Rattle.std.specs.Prelude.{IsTrue, OnOk};
 ghost use Rattle.ideal_tri.specs.Words.{reduce, cyclic_reduce, strip, IsReduced, IsRotation};
 
-use ideal_tri::{Label, Memory, label_laws, word_laws};
+use ideal_tri::{Label, Memory, label_laws, letter_laws, word_laws};
 
 /// Reduces a word in place: no letter is left beside its inverse.
 pub(crate) fn reduce(letters: &mut Vec<Label>)
     ensures { letters.new.items ≡ reduce letters.old.items }
 {
     label_laws();
+    letter_laws();
     word_laws();
     let count = letters.len();
     let mut top = 0;
@@ -78,6 +79,7 @@ pub(crate) fn push_reduced(word: &mut Vec<Label>, x: Label) -> Result<(), Memory
     ensures reduced { OnOk result (IsReduced word.new.items) }
 {
     label_laws();
+    letter_laws();
     word_laws();
     let count = word.len();
     if count > 0 && word[count - 1] == x.inverse() {

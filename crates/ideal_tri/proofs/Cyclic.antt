@@ -24,7 +24,7 @@ use Rattle.ideal_tri.proofs.Reduction.{IsReduced-tail, IsReduced-front, IsReduce
 use Rattle.ideal_tri.proofs.Reduction.{IsReduced-reduce, reduce-fixed, reduce-reduce, reduce-left, reduce-right}
 use Rattle.ideal_tri.proofs.Reduction.{reduce-take_off, reduce-cancel_back, IsReduced-act, act-append, act-reduce}
 use Rattle.ideal_tri.proofs.Reduction.{act-inverse_word, reduce-drop_pair, reduce-inverse_word, reduce-keeps}
-use Rattle.ideal_tri.proofs.Reduction.{inverse_word-append, IsReduced-inverse_word}
+use Rattle.ideal_tri.proofs.Reduction.{inverse_word-append, IsReduced-inverse_word, length-reduce}
 use Rattle.ideal_tri.proofs.Rotations.{Rotation-refl, Rotation-same, Rotation-sym, Rotation-trans, Rotation-steps}
 
 -- ---- the two ends of a word
@@ -203,6 +203,18 @@ cyclic_reduce-fixed w h =
 pub cyclic_reduce-shape : (w : List ℤ) → (p : List ℤ) × (reduce w ≡ p ++ (cyclic_reduce w ++ inverse_word p))
 unfolding cyclic_reduce
 cyclic_reduce-shape w = strip-shape (length (reduce w)) (reduce w)
+
+-- and no longer than the word
+pub length-cyclic_reduce : (w : List ℤ) → length (cyclic_reduce w) ≤ length w
+length-cyclic_reduce w =
+    let (p, shape) = cyclic_reduce-shape w in
+    omega (
+      arith,
+      length-reduce w,
+      ap length shape,
+      length-append p (cyclic_reduce w ++ inverse_word p),
+      length-append (cyclic_reduce w) (inverse_word p),
+    )
 
 -- the cyclic reduction is seen from the reduction alone
 pub cyclic_reduce-respects : (u v : List ℤ) → reduce u ≡ reduce v → cyclic_reduce u ≡ cyclic_reduce v

@@ -13,6 +13,7 @@ pub mod Labels
 pub mod Reduction
 pub mod Rotations
 pub mod Cyclic
+pub mod Letters
 pub mod Triangles
 pub mod Triples
 pub mod Walks

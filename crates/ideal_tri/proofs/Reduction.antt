@@ -8,7 +8,7 @@
 -- A deletion takes out a pair that acts as nothing, so it leaves the reduction alone. Deletions lead from w to its
 -- reduction, pair by pair as the letters are put in front. A reduced word is its own reduction, so no other is
 -- reached.
-use Rattle.std.proofs.Common.{ℤ, Bool, cond, List, [], ◌∷◌, ◌++◌, ◌≡◌, ◌≢◌, inl, inr, refl, sym, ◌∙◌, ap, subst}
+use Rattle.std.proofs.Common.{ℤ, Bool, cond, List, [], ◌∷◌, ◌++◌, ◌≡◌, ◌≢◌, ◌≤◌, inl, inr, refl, sym, ◌∙◌, ap, subst}
 use Rattle.std.proofs.Common.{append_assoc, arith, length, length-append}
 use Rattle.std.specs.List.{All}
 use Rattle.std.proofs.lemmas.List.{append-nil}
@@ -83,6 +83,15 @@ push_inverse-push x w h =
     ap (λ (z : ℤ). push (inverse x) (push z w)) (sym (inverse-inverse x))
     ∙ push-push_inverse (inverse x) w h
 
+-- it takes at most its own place
+length-push : (x : ℤ) (w : List ℤ) → length (push x w) ≤ length (x ∷ w)
+length-push x [] = omega arith
+length-push x (y ∷ w) =
+    elim (same_or_not y (inverse x)) [
+      | inl e ↦ omega (arith, ap length (push-cancels x y w e))
+      | inr n ↦ omega (arith, ap length (push-goes_on x y w n))
+    ]
+
 -- ---- a word in front
 
 pub IsReduced-act : (u w : List ℤ) → IsReduced w → IsReduced (act u w)
@@ -92,6 +101,11 @@ IsReduced-act (x ∷ u) w h = IsReduced-push x (act u w) (IsReduced-act u w h)
 -- the reduction of a word is reduced
 pub IsReduced-reduce : (w : List ℤ) → IsReduced (reduce w)
 IsReduced-reduce w = IsReduced-act w [] tt
+
+-- and no longer
+pub length-reduce : (w : List ℤ) → length (reduce w) ≤ length w
+length-reduce [] = omega arith
+length-reduce (x ∷ w) = omega (arith, length-push x (reduce w), length-reduce w)
 
 -- a reduced word is its own reduction
 pub reduce-fixed : (w : List ℤ) → IsReduced w → reduce w ≡ w

@@ -11,7 +11,7 @@ use Rattle.std.proofs.Common.{ℕ, ℤ, pos, List, [], ◌∷◌, ◌++◌, ◌�
 use Rattle.std.proofs.Common.{length, get_or, map, All, flat_map}
 use Rattle.std.proofs.lemmas.List.{map-append, length-map, get_or_default}
 use Rattle.std.proofs.lemmas.List.Elements.{All-nil, All-cons, All-head, All-tail, All-append, All-weaker, All-get_or}
-use Rattle.ideal_tri.specs.Labels.{inverse, edge_of}
+use Rattle.ideal_tri.specs.Labels.{edge_of}
 use Rattle.ideal_tri.specs.Words.{IsCyclicallyReduced, cyclic_reduce}
 use Rattle.ideal_tri.specs.Curves.{crossings}
 use Rattle.ideal_tri.specs.Triangulations.{IsTriangulation, IsLabel, IsWalk, edge_count, triangle_of, next, previous}
@@ -32,6 +32,7 @@ use Rattle.ideal_tri.proofs.Bijections.{image_in_range, image_of-map, bijection_
 use Rattle.ideal_tri.proofs.Bijections.{IsCyclicallyReduced-image}
 use Rattle.ideal_tri.proofs.InverseImages.{length-inverse_images, there_and_back, back_and_there, back_in_range}
 use Rattle.ideal_tri.proofs.InverseImages.{bijection_back}
+use Rattle.ideal_tri.proofs.Walks.{walk_labels}
 
 -- ---- labels
 
@@ -221,12 +222,6 @@ relabelling_through from between to images others from_is h k =
 
 -- ---- curves
 
--- the letters of a walk are labels
-walk_labels : (triples : List (List ℤ)) (w : List ℤ) (s t : ℕ) → IsWalk triples s w t → All (IsLabel triples) w
-walk_labels triples [] s t h = All-nil (IsLabel triples)
-walk_labels triples (x ∷ w) s t h =
-    All-cons (IsLabel triples) x w h.0 (walk_labels triples w (triangle_of triples (inverse x)) t h.2)
-
 -- a property of all letters of all words
 All-letters : (P : ℤ → Type 0) (words : List (List ℤ)) → All (All P) words → All P (flat_map (λ w. w) words)
 All-letters P [] h = All-nil P
@@ -278,7 +273,7 @@ moves_counts from to images from_is h w runs vector drawing e below =
     labels =
         All-weaker (λ v. (t : ℕ) × IsWalk from t v t) (AreMapped images)
         (λ v walk. subst (λ (n : ℕ). All (λ x. edge_of x < n) v) (sym h.one_per_edge)
-        (walk_labels from v walk.0 walk.0 walk.1))
+        (walk_labels from walk.0 walk.0 v walk.1))
         words (drawing_walks from w runs (triangle_laws from from_is) drawing)
 
 -- ---- the laws

@@ -15,6 +15,7 @@ use Rattle.std.proofs.lemmas.List.Sums.{sum_by-cons, sum_by-append}
 use Rattle.ideal_tri.specs.Labels.{edge_of}
 use Rattle.ideal_tri.specs.Triangulations.{labels_of, edge_count, IsLabel, IsTriangulation, has_side, triangle_of}
 use Rattle.ideal_tri.specs.Triangulations.{next_in, next, previous}
+use Rattle.ideal_tri.specs.Vertices.{corner_step, corner_after}
 use Rattle.ideal_tri.specs.SurfaceLaws.{TriangleLaws}
 use Rattle.ideal_tri.proofs.Labels.{same_or_not, int_eq-same, int_eq-other}
 
@@ -404,8 +405,14 @@ previous-is triples x y z n g = ap (next triples) g.first.after ∙ g.second.aft
 -- ---- the laws
 
 -- next runs round the sides of each triangle
+-- a corner that is alone at its vertex
+alone_turned : (triples : List (List ℤ)) (n : ℕ) (x : ℤ) → corner_step triples x ≡ x → corner_after triples n x ≡ x
+alone_turned triples zero x is = refl
+alone_turned triples (suc n) x is = ap (corner_after triples n) is ∙ alone_turned triples n x is
+
 pub triangle_laws : (triples : List (List ℤ)) → IsTriangulation triples → TriangleLaws triples
 triangle_laws triples h = record {
+  alone = alone_turned triples;
   triangle = λ x l. let g = triangle_at triples h x l in
       subst (λ (k : ℕ). k < length triples) (sym g.sides.first.triangle) g.sides.below;
   listed =

@@ -1,5 +1,7 @@
 -- What holds of words and their inverses, of their reduction, and of closed words.
-use Rattle.std.specs.Prelude.{◌≡◌, ◌↔◌, ℤ, List, ◌∷◌, ◌++◌, length, map, true, All, slice_index_or}
+use Rattle.std.specs.Prelude.{◌≡◌, ◌≢◌, ◌<◌, ◌≤◌, ◌↔◌, ◌+◌, ◌-◌, ℕ, ℤ, List, [], ◌∷◌, ◌++◌}
+use Rattle.std.specs.Prelude.{length, map, take, drop, Bool, true, false, not, All, slice_index_or}
+use Rattle.std.specs.Ordering.{int_eq}
 use Rattle.ideal_tri.specs.Triangulations.{IsLabel}
 use Rattle.ideal_tri.specs.Words.{inverse_word, IsReduced, reduce, Deletes, DeletesAll, IsRotation}
 use Rattle.ideal_tri.specs.Words.{IsCyclicallyReduced, cyclic_reduce, last_of}
@@ -26,7 +28,14 @@ pub record RotationLaws : Type 0 where
 pub record ReductionLaws : Type 0 where
   pub is_reduced : (w : List ℤ) → IsReduced (reduce w)
   pub fixed : (w : List ℤ) → IsReduced w → reduce w ≡ w
+  -- parts of reduced words, words joined at a letter that ends the one and begins the other, and
+  -- the way back
   pub front : (u v : List ℤ) → IsReduced (u ++ v) → IsReduced u
+  pub back : (u v : List ℤ) → IsReduced (u ++ v) → IsReduced v
+  pub glue : (u : List ℤ) (x : ℤ) (v : List ℤ) → IsReduced (u ++ (x ∷ [])) → IsReduced (x ∷ v)
+      → IsReduced (u ++ (x ∷ v))
+  pub turned : (w : List ℤ) → IsReduced w → IsReduced (inverse_word w)
+  -- ---- equations
   pub twice : (w : List ℤ) → reduce (reduce w) ≡ reduce w
   pub append : (u v : List ℤ) → reduce (u ++ v) ≡ reduce (reduce u ++ reduce v)
   pub left : (u v b : List ℤ) → reduce u ≡ reduce v → reduce (u ++ b) ≡ reduce (v ++ b)
@@ -40,6 +49,10 @@ pub record ReductionLaws : Type 0 where
 -- the cyclic reduction of a closed word is fixed up to rotation
 pub record CyclicLaws : Type 0 where
   pub is_reduced : (w : List ℤ) → IsCyclicallyReduced (cyclic_reduce w)
+  pub word : (w : List ℤ) → IsCyclicallyReduced w → IsReduced w
+  pub rotated : (u v : List ℤ) → IsRotation u v → IsCyclicallyReduced u → IsCyclicallyReduced v
+  pub turned : (w : List ℤ) → IsCyclicallyReduced w → IsCyclicallyReduced (inverse_word w)
+  pub no_longer : (w : List ℤ) → length (cyclic_reduce w) ≤ length w
   pub fixed : (w : List ℤ) → IsCyclicallyReduced w → cyclic_reduce w ≡ w
   pub shape : (w : List ℤ) → (p : List ℤ) × (reduce w ≡ p ++ (cyclic_reduce w ++ inverse_word p))
   pub conjugate : (q u v : List ℤ) → reduce (inverse_word q ++ (u ++ q)) ≡ reduce v
@@ -67,3 +80,15 @@ pub record WordLaws : Type 0 where
   pub cyclic : CyclicLaws
   pub curves : CurveLaws
   pub last : (x : ℤ) (w : List ℤ) (d : ℤ) → last_of x w ≡ slice_index_or (x ∷ w) (length w) d
+
+-- a letter x that is read in a word: the word from there on, and where it is the last letter; and
+-- what a test r whether letters are different tells
+pub record LetterLaws : Type 0 where
+  pub next : (w : List ℤ) (i : ℕ) (x : ℤ) → i < length w → x ≡ slice_index_or w i x
+      → drop i w ≡ x ∷ drop (i + 1) w
+  pub parts : (w : List ℤ) (n : ℕ) (x : ℤ) → n ≡ length w → 0 < n → x ≡ slice_index_or w (n - 1) x
+      → w ≡ take (n - 1) w ++ (x ∷ [])
+  pub last : (x : ℤ) (w : List ℤ) (z : ℤ)
+      → z ≡ slice_index_or (x ∷ w) (length (x ∷ w) - 1) z → z ≡ last_of x w
+  pub differ : (x y : ℤ) (r : Bool) → r ≡ not (int_eq x y) → r ≡ true → x ≢ y
+  pub agree : (x y : ℤ) (r : Bool) → r ≡ not (int_eq x y) → r ≡ false → x ≡ y

@@ -5,7 +5,7 @@
 ghost use Rattle.std.specs.Prelude.{ℤ, List};
 ghost use Rattle.ideal_tri.specs.Triangulations.{IsTriangulation};
 ghost use Rattle.ideal_tri.specs.LabelLaws.{LabelLaws};
-ghost use Rattle.ideal_tri.specs.WordLaws.{WordLaws};
+ghost use Rattle.ideal_tri.specs.WordLaws.{LetterLaws, WordLaws};
 ghost use Rattle.ideal_tri.specs.DrawingLaws.{DrawingLaws, SameCurvesLaws};
 ghost use Rattle.ideal_tri.specs.StrandLaws.{StrandLaws};
 ghost use Rattle.ideal_tri.specs.CornerLaws.{CornerLaws};
@@ -26,6 +26,11 @@ pub fn label_laws()
 /// What is proved of words and their inverses, of their reduction, and of closed words.
 pub fn word_laws()
     ensures { WordLaws }
+{}
+
+/// What is proved of a letter that is read in a word.
+pub fn letter_laws()
+    ensures { LetterLaws }
 {}
 
 /// What is proved of lists of closed words up to order, rotation and direction.

@@ -27,8 +27,8 @@ pub use images::inverse_images;
 pub use label::Label;
 pub use laws::{
     bijection_laws, component_laws, corner_laws, drawing_laws, flip_laws, hit_laws, label_laws,
-    relabelling_laws, same_curves_laws, strand_laws, surface_laws, triple_laws, vertex_laws,
-    word_laws,
+    letter_laws, relabelling_laws, same_curves_laws, strand_laws, surface_laws, triple_laws,
+    vertex_laws, word_laws,
 };
 pub use memory::Memory;
 pub use tri::{EDGES, Tri, TriError};

@@ -19,7 +19,6 @@ use Rattle.edge_coords.specs.declared.coords.CoordsError.{CoordsError}
 use Rattle.edge_coords.specs.declared.coords.CoordsError.TheVariants.{WrongLength, TooLarge}
 use Rattle.edge_coords.specs.declared.coords.CoordsError.TheVariants.{OddTriangle, LongSide}
 use Rattle.multicurve_cert.specs.Cycles.{IsCycle, cycle_vector}
-use Rattle.multicurve_cert.proofs.Filled.{small_values}
 use Rattle.multicurve_cert.proofs.Turns.{turns, crossed_turns}
 
 -- the numbers of a multicurve are not refused
@@ -57,7 +56,13 @@ module _ (triples : List (List ℤ)) (sound : IsTriangulation triples) (labels :
   cycle_curve w cycle = loop_curve w cycle.loop
 
 pub cycle_small : (triples : List (List ℤ)) (w : List ℤ) → IsCycle triples w → AreSmall (cycle_vector triples w)
-cycle_small triples w cycle =
-    small_values (λ e. crossings e (w ∷ [])) (edge_count triples)
-    (λ e within. let short : length w ≤ 8 = cycle.short in
-    omega (arith, count_by-le-length (λ x. nat_eq (edge_of x) e) w, crossings_one e w))
+cycle_small triples w cycle = λ e d within.
+    let inside : e < edge_count triples =
+    omega (arith, length-map-range_with_len (λ k. crossings k (w ∷ [])) 0 (edge_count triples)) in
+    let short : length w ≤ 8 = cycle.short in
+    omega (
+      arith,
+      get_or-map-range_with_len (λ k. crossings k (w ∷ [])) 0 (edge_count triples) e e d inside (omega arith),
+      count_by-le-length (λ x. nat_eq (edge_of x) e) w,
+      crossings_one e w,
+    )

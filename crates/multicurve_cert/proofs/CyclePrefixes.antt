@@ -2,7 +2,7 @@
 -- triangle that was entered.
 use Rattle.std.proofs.Common.{ℕ, ℤ, pos, negsuc, drop, List, [], ◌∷◌, ◌++◌, ◌≡◌, ◌≢◌, ◌⊎◌, inl, inr, ◌+◌, ◌-◌, ◌<◌, ◌≤◌, refl, sym}
 use Rattle.std.proofs.Common.{◌∙◌, subst, ap, arith, length, get_or, take, length-append, append_assoc}
-use Rattle.std.proofs.lemmas.List.{drop_more, append-nil, take_more, take_all, take_at, get_or-append_right, get_or_append_left}
+use Rattle.std.proofs.lemmas.List.{drop_more, append-nil, take_at, get_or-append_right, get_or_append_left}
 use Rattle.ideal_tri.specs.LabelLaws.{OrderLaws}
 use Rattle.ideal_tri.specs.SurfaceLaws.{TriangleLaws}
 use Rattle.std.proofs.Math.Nat.{eq-or-lt_of_le}
@@ -17,7 +17,7 @@ use Rattle.multicurve_cert.proofs.CycleLists.{adds_none, adds_one, adds_join}
 use Rattle.multicurve_cert.proofs.CycleTests.{FollowFrom, from_loop}
 use Rattle.multicurve_cert.proofs.WordOrder.{before_behind}
 use Rattle.multicurve_cert.proofs.WordRotations.{turned, not_least_on, not_least_back}
-use Rattle.ideal_tri.specs.WordLaws.{WordLaws}
+use Rattle.ideal_tri.specs.WordLaws.{LetterLaws, WordLaws}
 use Rattle.ideal_tri.specs.Words.{last_of, inverse_word}
 
 -- ---- the whole word
@@ -77,16 +77,11 @@ record GoesOn (triples : List (List ℤ)) (word : List ℤ) (last : ℤ) (w : Li
   label : IsLabel triples next
   follows : Follows triples last next
 
-last_split : (w : List ℤ) (n : ℕ) (x : ℤ) → n ≡ length w → 0 < n → x ≡ get_or w (n - 1) x → w ≡ take (n - 1) w ++ (x ∷ [])
-last_split w n x is_n some is_x =
-    sym (take_all (n - 1 + 1) w (omega arith))
-    ∙ take_more w (n - 1) x (omega arith)
-    ∙ ap (λ (z : ℤ). take (n - 1) w ++ (z ∷ [])) (sym is_x)
-
-goes_on : (triples : List (List ℤ)) (word : List ℤ) (n count : ℕ) (last : ℤ) (w : List ℤ) → count ≡ length word
+goes_on : LetterLaws → (triples : List (List ℤ)) (word : List ℤ) (n count : ℕ) (last : ℤ) (w : List ℤ)
+    → count ≡ length word
     → 0 < count → last ≡ get_or word (count - 1) last → count < n → IsCycleFrom triples n word w
     → GoesOn triples word last w
-goes_on triples word n count last w is_count some is_last more h = by_rest h.rest h.begins
+goes_on letters triples word n count last w is_count some is_last more h = by_rest h.rest h.begins
   where
     by_rest : (r : List ℤ) → w ≡ word ++ r → GoesOn triples word last w
     by_rest [] e =
@@ -95,7 +90,7 @@ goes_on triples word n count last w is_count some is_last more h = by_rest h.res
     by_rest (y ∷ r) e =
         let at_last : w ≡ take (count - 1) word ++ (last ∷ (y ∷ r)) =
         e
-        ∙ ap (λ (u : List ℤ). u ++ (y ∷ r)) (last_split word count last is_count some is_last)
+        ∙ ap (λ (u : List ℤ). u ++ (y ∷ r)) (letters.parts word count last is_count some is_last)
         ∙ append_assoc (take (count - 1) word) (last ∷ []) (y ∷ r) in
         let loop = h.cycle.cycle.loop in
         let follow = loop_follows triples w loop in
@@ -109,11 +104,12 @@ goes_on triples word n count last w is_count some is_last more h = by_rest h.res
         }
 
 -- the triangle that was entered was visited before: no cycle goes on
-pub adds_nothing : (triples : List (List ℤ)) (word : List ℤ) (n count t : ℕ) (last back : ℤ) (walks : List DualWalk)
+pub adds_nothing : LetterLaws
+    → (triples : List (List ℤ)) (word : List ℤ) (n count t : ℕ) (last back : ℤ) (walks : List DualWalk)
     → count ≡ length word → 0 < count → last ≡ get_or word (count - 1) last → count < n → back ≡ inverse last
     → t ≡ triangle_of triples back → Visits triples word t → Adds triples (IsCycleFrom triples n word) walks walks
-adds_nothing triples word n count t last back walks is_count some is_last more is_back is_t (i, before, seen) =
-    adds_none triples (IsCycleFrom triples n word) walks (λ w h. twice w h (goes_on triples word n count last w is_count some is_last more h))
+adds_nothing letters triples word n count t last back walks is_count some is_last more is_back is_t (i, before, seen) =
+    adds_none triples (IsCycleFrom triples n word) walks (λ w h. twice w h (goes_on letters triples word n count last w is_count some is_last more h))
   where
     twice : (w : List ℤ) → IsCycleFrom triples n word w → GoesOn triples word last w → ⊥
     twice w h g =
@@ -158,13 +154,14 @@ in_order triples n word x y less u v h k =
           (before_behind word h.rest k.rest x y less)),
     )
 
-pub adds_both : (triples : List (List ℤ)) (word by_first by_second : List ℤ) (n count : ℕ) (last back x y : ℤ) (old mid new : List DualWalk)
+pub adds_both : LetterLaws
+    → (triples : List (List ℤ)) (word by_first by_second : List ℤ) (n count : ℕ) (last back x y : ℤ) (old mid new : List DualWalk)
     → count ≡ length word → 0 < count → last ≡ get_or word (count - 1) last → count < n → back ≡ inverse last
     → AreOtherSides triples back x y
     → by_first ≡ word ++ (x ∷ []) → by_second ≡ word ++ (y ∷ [])
     → Adds triples (IsCycleFrom triples n by_first) old mid → Adds triples (IsCycleFrom triples n by_second) mid new
     → Adds triples (IsCycleFrom triples n word) old new
-adds_both triples word by_first by_second n count last back x y old mid new is_count some is_last more is_back sides
+adds_both letters triples word by_first by_second n count last back x y old mid new is_count some is_last more is_back sides
     is_first is_second left right =
     adds_join triples (IsCycleFrom triples n (word ++ (x ∷ []))) (IsCycleFrom triples n (word ++ (y ∷ [])))
     (IsCycleFrom triples n word) old mid new
@@ -172,7 +169,7 @@ adds_both triples word by_first by_second n count last back x y old mid new is_c
     (subst (λ (u : List ℤ). Adds triples (IsCycleFrom triples n u) mid new) is_second right)
     (in_order triples n word x y sides.order)
     (longer triples n word x) (longer triples n word y)
-    (λ w h. either w h (goes_on triples word n count last w is_count some is_last more h))
+    (λ w h. either w h (goes_on letters triples word n count last w is_count some is_last more h))
   where
     either : (w : List ℤ) → IsCycleFrom triples n word w → GoesOn triples word last w
         → IsCycleFrom triples n (word ++ (x ∷ [])) w ⊎ IsCycleFrom triples n (word ++ (y ∷ [])) w

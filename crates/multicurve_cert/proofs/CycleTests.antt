@@ -7,7 +7,7 @@ use Rattle.std.specs.List.{All}
 use Rattle.std.proofs.lemmas.List.Elements.{All-head, All-tail}
 use Rattle.ideal_tri.specs.Labels.{inverse}
 use Rattle.ideal_tri.specs.Triangulations.{IsLabel, IsWalk, triangle_of}
-use Rattle.ideal_tri.specs.WordLaws.{WordLaws}
+use Rattle.ideal_tri.specs.WordLaws.{LetterLaws}
 use Rattle.ideal_tri.specs.Words.{IsReduced, last_of}
 use Rattle.free_groupoid.specs.InnerLaws.{IsReducedLoop}
 use Rattle.multicurve_cert.specs.inside.CycleParts.{Follows, Visits, VisitsOnce}
@@ -54,13 +54,6 @@ pub from_loop : (triples : List (List ℤ)) (x : ℤ) (w : List ℤ) → IsReduc
 from_loop triples x w (walk, reduced) =
     let h = follow_from triples x w x _ _ walk reduced in ((h.1, h.2), h.0)
 
--- the last letter, as the code reads it
-pub last_read : WordLaws → (x : ℤ) (w : List ℤ) (z : ℤ) → z ≡ get_or (x ∷ w) (length (x ∷ w) - 1) z → z ≡ last_of x w
-last_read words x w z e =
-    e
-    ∙ ap (λ (n : ℕ). get_or (x ∷ w) n z) (let place : length (x ∷ w) - 1 ≡ length w = omega arith in place)
-    ∙ sym (words.last x w z)
-
 -- what is left to test, from the letter `last` on, when i letters were read
 pub record FollowsUpTo (triples : List (List ℤ)) (z : ℤ) (w : List ℤ) (last : ℤ) (i : ℕ) : Type 0 where
   pub label : IsLabel triples last
@@ -98,17 +91,18 @@ follows_all triples z w last i h all =
 
 -- ---- both ways, for a word that is not empty and its last letter z
 
-pub loop_from_last : WordLaws → (triples : List (List ℤ)) (w : List ℤ) (z : ℤ) → All (IsLabel triples) w → 0 < length w
+pub loop_from_last : LetterLaws → (triples : List (List ℤ)) (w : List ℤ) (z : ℤ) → All (IsLabel triples) w
+    → 0 < length w
     → z ≡ get_or w (length w - 1) z → FollowFrom triples z w → IsReducedLoop triples w
-loop_from_last words triples [] z labels some is_z h = absurd (omega arith)
-loop_from_last words triples (x ∷ w) z labels some is_z h =
-    loop_from triples x w labels (subst (λ (y : ℤ). FollowFrom triples y (x ∷ w)) (last_read words x w z is_z) h)
+loop_from_last letters triples [] z labels some is_z h = absurd (omega arith)
+loop_from_last letters triples (x ∷ w) z labels some is_z h =
+    loop_from triples x w labels (subst (λ (y : ℤ). FollowFrom triples y (x ∷ w)) (letters.last x w z is_z) h)
 
-pub last_from_loop : WordLaws → (triples : List (List ℤ)) (w : List ℤ) (z : ℤ)
+pub last_from_loop : LetterLaws → (triples : List (List ℤ)) (w : List ℤ) (z : ℤ)
     → z ≡ get_or w (length w - 1) z → IsReducedLoop triples w → FollowFrom triples z w
-last_from_loop words triples [] z is_z h = absurd h
-last_from_loop words triples (x ∷ w) z is_z h =
-    subst (λ (y : ℤ). FollowFrom triples y (x ∷ w)) (sym (last_read words x w z is_z)) (from_loop triples x w h)
+last_from_loop letters triples [] z is_z h = absurd h
+last_from_loop letters triples (x ∷ w) z is_z h =
+    subst (λ (y : ℤ). FollowFrom triples y (x ∷ w)) (sym (letters.last x w z is_z)) (from_loop triples x w h)
 
 -- ---- triangles that are visited
 

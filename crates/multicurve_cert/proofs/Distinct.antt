@@ -2,7 +2,6 @@
 use Rattle.std.proofs.Common.{ℕ, zero, suc, List, [], ◌∷◌, ◌++◌, ◌≡◌, ◌≢◌, ◌<◌, sym, subst, append_assoc}
 use Rattle.std.proofs.Common.{arith, length, map, get_or}
 use Rattle.std.proofs.lemmas.List.{append-nil}
-use Rattle.ideal_tri.specs.Words.{IsRotation}
 
 -- ---- what holds of each element
 
@@ -63,6 +62,13 @@ Distinct-step {A = A} x xs h =
     Distinct-push xs x h.1
     (Each-weaken (λ (y : A). x ≢ y) (λ (y : A). y ≢ x) (λ y n e. n (sym e)) xs h.0)
 
+-- rotations, by as many steps
+pub Distinct-turned : {A : Type 0} → (a b : List A) → Distinct (a ++ b) → Distinct (b ++ a)
+Distinct-turned [] b h = subst Distinct (sym (append-nil b)) h
+Distinct-turned (x ∷ a) b h =
+    subst Distinct (append_assoc b (x ∷ []) a)
+    (Distinct-turned a (b ++ (x ∷ [])) (subst Distinct (append_assoc a b (x ∷ [])) (Distinct-step x (a ++ b) h)))
+
 -- two places have different elements
 pub Distinct-at : {A : Type 0} → (xs : List A) (i j : ℕ) (d : A) → Distinct xs → i < j → j < length xs
     → get_or xs i d ≢ get_or xs j d
@@ -72,17 +78,3 @@ Distinct-at {A = A} (x ∷ xs) zero (suc j) d h before inside =
     Each-at (λ (y : A). x ≢ y) xs j d h.0 (omega arith)
 Distinct-at (x ∷ xs) (suc i) (suc j) d h before inside =
     Distinct-at xs i j d h.1 (omega arith) (omega arith)
-
--- ---- rotations
-
--- what stays when the first element goes to the end, stays in rotations
-pub by_steps : {A : Type 0} → (P : List A → Type 0) → ((x : A) (w : List A) → P (x ∷ w) → P (w ++ (x ∷ [])))
-    → (a b : List A) → P (a ++ b) → P (b ++ a)
-by_steps P step [] b h = subst P (sym (append-nil b)) h
-by_steps P step (x ∷ a) b h =
-    subst P (append_assoc b (x ∷ []) a)
-    (by_steps P step a (b ++ (x ∷ [])) (subst P (append_assoc a b (x ∷ [])) (step x (a ++ b) h)))
-
-pub rotation_keeps : {A : Type 0} → (P : List A → Type 0) → ((x : A) (w : List A) → P (x ∷ w) → P (w ++ (x ∷ [])))
-    → (u v : List A) → IsRotation u v → P u → P v
-rotation_keeps P step u v (a, b, e, f) h = subst P (sym f) (by_steps P step a b (subst P e h))

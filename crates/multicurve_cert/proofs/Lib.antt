@@ -4,7 +4,6 @@ pub mod ImageList
 pub mod SumsAndDifferences
 pub mod Outcomes
 pub mod Turns
-pub mod Filled
 pub mod CycleCurves
 pub mod Trying
 pub mod ByCycles
@@ -16,7 +15,6 @@ pub mod ClosedWalks
 pub mod LeastWords
 pub mod SimpleWalks
 pub mod ShortCycles
-pub mod LabelTests
 pub mod WordOrder
 pub mod WordRotations
 pub mod CycleTests

@@ -1,8 +1,7 @@
 -- The images of multicurves under the powers of a word.
-use Rattle.std.proofs.Common.{◌≡◌, ◌<◌, ◌≤◌, ◌+◌, ◌-◌, ℕ, zero, suc, ℤ, List, [], ◌∷◌, ◌++◌, length, refl, sym, ◌∙◌}
-use Rattle.std.proofs.Common.{ap, subst, arith, append_assoc, add-one}
+use Rattle.std.proofs.Common.{◌≡◌, ◌<◌, ◌≤◌, ◌+◌, ◌-◌, ℕ, zero, suc, ℤ, List, length, refl, sym, ◌∙◌}
+use Rattle.std.proofs.Common.{ap, subst, arith}
 use Rattle.std.specs.List.{repeat}
-use Rattle.std.proofs.lemmas.List.{append-nil}
 use Rattle.std.proofs.lemmas.List.FromFn.{fill_by_all}
 use Rattle.ideal_tri.specs.Curves.{crossings}
 use Rattle.ideal_tri.specs.Drawings.{draw}
@@ -10,6 +9,7 @@ use Rattle.ideal_tri.specs.DrawingLaws.{DrawingLaws}
 use Rattle.ideal_tri.specs.Strands.{words_of}
 use Rattle.ideal_tri.specs.Triangulations.{IsTriangulation, edge_count}
 use Rattle.ideal_tri.specs.Vectors.{IsMulticurve}
+use Rattle.tri_atlas.specs.MapLaws.{PathLaws}
 use Rattle.tri_atlas.specs.Maps.{images_under, path_map}
 use Rattle.tri_atlas.specs.Moves.{Move, ArePath}
 use Rattle.tri_atlas.specs.MovedVectors.{vector_along, IsFirstOver, OverflowsAt}
@@ -21,39 +21,11 @@ use Rattle.multicurve_cert.specs.Candidates.{Overflows}
 use Rattle.multicurve_cert.specs.PowerLaws.{PowerLaws}
 use Rattle.multicurve_cert.proofs.Joined.{NoneFirst, over_left, over_right, none_joined}
 
--- ---- moves taken several times
-
-repeat_suc : {A : Type 0} (n : ℕ) (xs : List A) → repeat (suc n) xs ≡ repeat n xs ++ xs
-repeat_suc zero xs = append-nil xs
-repeat_suc {A} (suc n) xs =
-    ap (λ (ys : List A). xs ++ ys) (repeat_suc n xs) ∙ sym (append_assoc xs (repeat n xs) xs)
-
--- one more time, at the end
-repeat_more : {A : Type 0} (n : ℕ) (xs : List A) → repeat (n + 1) xs ≡ repeat n xs ++ xs
-repeat_more {A} n xs = ap (λ (k : ℕ). repeat k xs) (add-one n) ∙ repeat_suc n xs
-
--- so many more times
-repeat_on : {A : Type 0} (n m k : ℕ) (xs : List A) → k ≡ n + m → repeat k xs ≡ repeat n xs ++ repeat m xs
-repeat_on zero m k xs e = ap (λ (i : ℕ). repeat i xs) (let same : k ≡ m = omega (arith, e) in same)
-repeat_on {A} (suc n) m k xs e =
-    let more : k ≡ suc (n + m) = omega (arith, e) in
-    ap (λ (i : ℕ). repeat i xs) more ∙ ap (λ (ys : List A). xs ++ ys) (repeat_on n m (n + m) xs refl)
-    ∙ sym (append_assoc xs (repeat n xs) (repeat m xs))
-
--- ---- paths
-
-paths_on : (before between after : List (List ℤ)) (first second : List Move) → ArePath before first between
-    → ArePath between second after → ArePath before (first ++ second) after
-paths_on before between after [] second here on =
-    subst (λ (t : List (List ℤ)). ArePath t second after) (sym here) on
-paths_on before between after (m ∷ first) second here on =
-    (here.0, here.1, here.2, paths_on here.0 between after first second here.3 on)
-
-module _ (triples : List (List ℤ)) (moves : List Move) (laws : VectorLaws) (drawing : DrawingLaws triples)
+module _ (triples : List (List ℤ)) (moves : List Move) (laws : VectorLaws) (paths : PathLaws) (drawing : DrawingLaws triples)
     (sound : IsTriangulation triples) (path : ArePath triples moves triples) where
   paths_often : (n : ℕ) → ArePath triples (repeat n moves) triples
   paths_often zero = refl
-  paths_often (suc n) = paths_on triples triples triples moves (repeat n moves) path (paths_often n)
+  paths_often (suc n) = paths.append triples triples triples moves (repeat n moves) path (paths_often n)
 
   image_along : (ms : List Move) (w : List ℕ) → ArePath triples ms triples → IsMulticurve triples w
       → image_vector triples ms w ≡ vector_along ms w
@@ -96,7 +68,7 @@ module _ (triples : List (List ℤ)) (moves : List Move) (laws : VectorLaws) (dr
           none_joined laws COORDINATE_LIMIT w (repeat n moves) moves (none_first w n curve small none)
           (λ i over. low i (((overflows moves here path here_curve small_here).first i).1
           (subst (λ (v : List ℕ). IsFirstOver COORDINATE_LIMIT v moves i) (sym is_along) over))) k
-          (subst (λ (ms : List Move). IsFirstOver COORDINATE_LIMIT w ms k) (repeat_more n moves)
+          (subst (λ (ms : List Move). IsFirstOver COORDINATE_LIMIT w ms k) (paths.repeats.more n moves)
           (((overflows (repeat (n + 1) moves) w (paths_often (n + 1)) curve small).first k).0 h))
 
       next_large : (k : ℕ) → OverflowsAt COORDINATE_LIMIT triples here moves k → Overflows triples moves w (n + 1)
@@ -104,7 +76,7 @@ module _ (triples : List (List ℤ)) (moves : List Move) (laws : VectorLaws) (dr
           let there = length (repeat n moves) + k in (
             there,
             ((overflows (repeat (n + 1) moves) w (paths_often (n + 1)) curve small).first there).1
-                (subst (λ (ms : List Move). IsFirstOver COORDINATE_LIMIT w ms there) (sym (repeat_more n moves))
+                (subst (λ (ms : List Move). IsFirstOver COORDINATE_LIMIT w ms there) (sym (paths.repeats.more n moves))
                 (over_right laws COORDINATE_LIMIT w (repeat n moves) moves k (none_first w n curve small none)
                 (subst (λ (v : List ℕ). IsFirstOver COORDINATE_LIMIT v moves k) is_along
                 (((overflows moves here path here_curve small_here).first k).0 h)))),
@@ -115,7 +87,7 @@ module _ (triples : List (List ℤ)) (moves : List Move) (laws : VectorLaws) (dr
         let on : m ≡ n + (m - n) = omega arith in (
           k,
           ((overflows (repeat m moves) w (paths_often m) curve small).first k).1
-              (subst (λ (ms : List Move). IsFirstOver COORDINATE_LIMIT w ms k) (sym (repeat_on n (m - n) m moves on))
+              (subst (λ (ms : List Move). IsFirstOver COORDINATE_LIMIT w ms k) (sym (ap (λ (i : ℕ). repeat i moves) on ∙ paths.repeats.join n (m - n) moves))
               (over_left laws COORDINATE_LIMIT w (repeat n moves) (repeat (m - n) moves) k
               (((overflows (repeat n moves) w (paths_often n) curve small).first k).0 h))),
         )
@@ -128,7 +100,7 @@ module _ (triples : List (List ℤ)) (moves : List Move) (laws : VectorLaws) (dr
     none = λ w curve. number_along w 0 curve;
     none_small = λ w over. let within : over.0 < 0 = over.1.within in omega arith;
     next = λ w n curve. number_along w (n + 1) curve
-        ∙ ap (λ (ms : List Move). vector_along ms w) (repeat_more n moves)
+        ∙ ap (λ (ms : List Move). vector_along ms w) (paths.repeats.more n moves)
         ∙ laws.join (repeat n moves) moves w
         ∙ ap (vector_along moves) (sym (number_along w n curve));
     next_small = λ w n curve small small_here none low. next_small w n curve small small_here none low;

@@ -19,7 +19,7 @@ use Rattle.multicurve_cert.proofs.Distinct.{Distinct, Distinct-at}
 use Rattle.multicurve_cert.proofs.Pigeonhole.{Shared}
 use Rattle.multicurve_cert.proofs.Known.{Known, known}
 use Rattle.multicurve_cert.proofs.ReducedWalks.{end_of, IsShort, two_walks}
-use Rattle.multicurve_cert.proofs.ClosedWalks.{core_loop, core_short}
+use Rattle.multicurve_cert.proofs.ClosedWalks.{core_loop}
 use Rattle.multicurve_cert.proofs.SimpleWalks.{starts, IsSimple, Simple, simple_walk, simple-same_curve}
 use Rattle.multicurve_cert.proofs.LeastWords.{LeastOf, least_word}
 
@@ -63,7 +63,7 @@ module _ (triples : List (List ℤ)) (k : Known triples) where
     short =
         let a : length u ≤ 4 = h.of_first.short in
         let b : length v ≤ 4 = h.of_second.short in
-        omega (arith, core_short triples k around, length-append u (inverse_word v), k.words.inverses.as_long v);
+        omega (arith, k.words.cyclic.no_longer around, length-append u (inverse_word v), k.words.inverses.as_long v);
   }
     where
       u : List ℤ

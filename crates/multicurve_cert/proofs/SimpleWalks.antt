@@ -7,15 +7,15 @@ use Rattle.std.proofs.Common.{subst, arith, length, length-append, map}
 use Rattle.std.proofs.lemmas.Bool.{cases_eq}
 use Rattle.std.proofs.lemmas.List.{map-append}
 use Rattle.ideal_tri.specs.Labels.{inverse}
-use Rattle.ideal_tri.specs.Words.{inverse_word, IsReduced, IsRotation, IsCyclicallyReduced, cyclic_reduce}
+use Rattle.ideal_tri.specs.Words.{inverse_word, IsReduced, IsRotation, cyclic_reduce}
 use Rattle.ideal_tri.specs.Curves.{IsSameCurve}
 use Rattle.ideal_tri.specs.Triangulations.{IsWalk, triangle_of}
 use Rattle.free_groupoid.specs.InnerLaws.{IsReducedLoop}
 use Rattle.multicurve_cert.proofs.Distinct.{Each, Each-append, Each-weaken, Distinct, Distinct-push}
-use Rattle.multicurve_cert.proofs.Distinct.{Distinct-step, rotation_keeps}
+use Rattle.multicurve_cert.proofs.Distinct.{Distinct-step, Distinct-turned}
 use Rattle.multicurve_cert.proofs.Known.{Known}
-use Rattle.multicurve_cert.proofs.ClosedWalks.{IsReduced-front, IsReduced-back, walk_parts, loop_walk, loop_cyclic}
-use Rattle.multicurve_cert.proofs.ClosedWalks.{loop-rotation, loop-inverse_word, core_loop, core_short}
+use Rattle.multicurve_cert.proofs.ClosedWalks.{loop_walk, loop_cyclic}
+use Rattle.multicurve_cert.proofs.ClosedWalks.{loop-rotation, loop-inverse_word, core_loop}
 
 -- the triangles where the letters start, and where they end
 abbrev pub starts : List (List ℤ) → List ℤ → List ℕ
@@ -99,10 +99,6 @@ revisits_or_once triples (x ∷ w) =
           ]
     ]
 
-cyclic-reduced : (w : List ℤ) → IsCyclicallyReduced w → IsReduced w
-cyclic-reduced [] h = tt
-cyclic-reduced (x ∷ w) h = IsReduced-front (x ∷ w) (x ∷ []) h
-
 module _ (triples : List (List ℤ)) (k : Known triples) where
   -- a closed walk with nothing to reduce, with fewer letters than w
   record Shorter (w : List ℤ) : Type 0 where
@@ -115,8 +111,8 @@ module _ (triples : List (List ℤ)) (k : Known triples) where
   shorter w h r =
       let (t, walk) = loop_walk triples w h in
       let (s, front, tail) =
-      walk_parts triples t t r.front piece_on (subst (λ (u : List ℤ). IsWalk triples t u t) r.parts walk) in
-      let (q, along, rest) = walk_parts triples s t piece (r.y ∷ r.rest) tail in
+      k.walks.parts t t r.front piece_on (subst (λ (u : List ℤ). IsWalk triples t u t) r.parts walk) in
+      let (q, along, rest) = k.walks.parts s t piece (r.y ∷ r.rest) tail in
       let back : q ≡ s = sym rest.1 ∙ sym r.same ∙ along.1 in record {
         word = cyclic_reduce piece;
         loop =
@@ -124,7 +120,7 @@ module _ (triples : List (List ℤ)) (k : Known triples) where
             (λ e. let none : piece ≡ [] = sym (k.words.reduction.fixed piece reduced) ∙ e in absurd (cc));
         short = omega (
           arith,
-          core_short triples k piece,
+          k.words.cyclic.no_longer piece,
           ap length r.parts,
           length-append r.front piece_on,
           length-append piece (r.y ∷ r.rest),
@@ -139,9 +135,9 @@ module _ (triples : List (List ℤ)) (k : Known triples) where
 
       reduced : IsReduced piece
       reduced =
-          IsReduced-front piece (r.y ∷ r.rest)
-          (IsReduced-back r.front piece_on
-          (subst IsReduced r.parts (cyclic-reduced w (loop_cyclic triples w h))))
+          k.words.reduction.front piece (r.y ∷ r.rest)
+          (k.words.reduction.back r.front piece_on
+          (subst IsReduced r.parts (k.words.cyclic.word w (loop_cyclic triples w h))))
 
   -- a closed walk with nothing to reduce that visits no triangle twice, with no more letters than w
   pub record Simple (w : List ℤ) : Type 0 where
@@ -172,15 +168,12 @@ module _ (triples : List (List ℤ)) (k : Known triples) where
 
   -- ---- rotations and inverses of simple walks
 
-  once-step : (x : ℤ) (w : List ℤ) → Distinct (starts triples (x ∷ w)) → Distinct (starts triples (w ++ (x ∷ [])))
-  once-step x w h =
-      subst Distinct (sym (map-append (triangle_of triples) w (x ∷ [])))
-      (Distinct-step (triangle_of triples x) (starts triples w) h)
-
   simple-rotation : (u v : List ℤ) → IsRotation u v → IsSimple triples u → IsSimple triples v
-  simple-rotation u v r h = record {
-    loop = loop-rotation triples k u v r h.loop;
-    once = rotation_keeps (λ (w : List ℤ). Distinct (starts triples w)) once-step u v r h.once;
+  simple-rotation u v (a, b, e, f) h = record {
+    loop = loop-rotation triples k u v (a, b, e, f) h.loop;
+    once = subst Distinct (sym (ap (starts triples) f ∙ map-append (triangle_of triples) b a))
+        (Distinct-turned (starts triples a) (starts triples b)
+        (subst Distinct (ap (starts triples) e ∙ map-append (triangle_of triples) a b) h.once));
   }
 
   -- each letter starts where the one before it ends

@@ -3,9 +3,9 @@ use Rattle.std.proofs.Common.{ℕ, ℤ, List, [], ◌∷◌, ◌++◌, ◌≡◌
 use Rattle.std.proofs.Common.{subst, arith, length, get_or, drop, length-drop}
 use Rattle.std.proofs.lemmas.Bool.{cases_lt}
 use Rattle.std.proofs.Math.Nat.{eq-or-lt_of_le}
-use Rattle.std.proofs.lemmas.List.{drop_more}
 use Rattle.ideal_tri.specs.LabelLaws.{OrderLaws}
 use Rattle.ideal_tri.specs.Vertices.{rank}
+use Rattle.ideal_tri.specs.WordLaws.{LetterLaws}
 use Rattle.multicurve_cert.specs.Cycles.{IsWordBefore}
 
 -- ---- a strict order
@@ -59,33 +59,31 @@ pub record SameUpTo (v w : List ℤ) (i : ℕ) : Type 0 where
 pub same_none : (v w : List ℤ) → SameUpTo v w 0
 same_none v w = record { to = λ h. h; back = λ h. h }
 
-drop_read : (v : List ℤ) (i : ℕ) (x : ℤ) → i < length v → x ≡ get_or v i x → drop i v ≡ x ∷ drop (i + 1) v
-drop_read v i x inside is_x = drop_more v i x inside ∙ ap (λ (z : ℤ). z ∷ drop (i + 1) v) (sym is_x)
-
-at_heads : (v w : List ℤ) (i : ℕ) (x y : ℤ) → i < length v → i < length w → x ≡ get_or v i x → y ≡ get_or w i y
+at_heads : LetterLaws → (v w : List ℤ) (i : ℕ) (x y : ℤ) → i < length v → i < length w → x ≡ get_or v i x
+    → y ≡ get_or w i y
     → IsWordBefore (drop i v) (drop i w) ≡ IsWordBefore (x ∷ drop (i + 1) v) (y ∷ drop (i + 1) w)
-at_heads v w i x y in_v in_w is_x is_y =
-    ap (λ (z : List ℤ). IsWordBefore z (drop i w)) (drop_read v i x in_v is_x)
-    ∙ ap (λ (z : List ℤ). IsWordBefore (x ∷ drop (i + 1) v) z) (drop_read w i y in_w is_y)
+at_heads letters v w i x y in_v in_w is_x is_y =
+    ap (λ (z : List ℤ). IsWordBefore z (drop i w)) (letters.next v i x in_v is_x)
+    ∙ ap (λ (z : List ℤ). IsWordBefore (x ∷ drop (i + 1) v) z) (letters.next w i y in_w is_y)
 
 past_same : (v w : List ℤ) (x y : ℤ) → x ≡ y → IsWordBefore (x ∷ v) (y ∷ w) → IsWordBefore v w
 past_same v w x y e (inl h) = absurd (omega (arith, ap rank e))
 past_same v w x y e (inr h) = h.1
 
-pub same_more : (v w : List ℤ) (i : ℕ) (x y : ℤ) → SameUpTo v w i → i < length v → length v ≡ length w
+pub same_more : LetterLaws → (v w : List ℤ) (i : ℕ) (x y : ℤ) → SameUpTo v w i → i < length v → length v ≡ length w
     → x ≡ get_or v i x → y ≡ get_or w i y → x ≡ y → SameUpTo v w (i + 1)
-same_more v w i x y h inside as_long is_x is_y e =
-    let heads = at_heads v w i x y inside (omega arith) is_x is_y in record {
+same_more letters v w i x y h inside as_long is_x is_y e =
+    let heads = at_heads letters v w i x y inside (omega arith) is_x is_y in record {
       to = λ k. past_same _ _ x y e (subst (λ (T : Type 0). T) heads (h.to k));
       back = λ k. h.back (subst (λ (T : Type 0). T) (sym heads) (inr (e, k)));
     }
 
 -- the first letters that differ decide
-pub first_other : (v w : List ℤ) (i : ℕ) (x y : ℤ) → SameUpTo v w i → i < length v → length v ≡ length w
+pub first_other : LetterLaws → (v w : List ℤ) (i : ℕ) (x y : ℤ) → SameUpTo v w i → i < length v → length v ≡ length w
     → x ≡ get_or v i x → y ≡ get_or w i y → x ≢ y
     → (rank x < rank y → IsWordBefore v w) × (IsWordBefore v w → rank x < rank y)
-first_other v w i x y h inside as_long is_x is_y apart =
-    let heads = at_heads v w i x y inside (omega arith) is_x is_y in (
+first_other letters v w i x y h inside as_long is_x is_y apart =
+    let heads = at_heads letters v w i x y inside (omega arith) is_x is_y in (
       λ less. h.back (subst (λ (T : Type 0). T) (sym heads) (inl less)),
       λ k. decided (subst (λ (T : Type 0). T) heads (h.to k)),
     )

@@ -1,6 +1,7 @@
 -- The least word along a curve: it is compared with each of its rotations and of those of the way back.
 use Rattle.std.proofs.Common.{ℕ, ℤ, List, [], ◌∷◌, ◌++◌, ◌≡◌, ◌⊎◌, inl, inr, ◌+◌, ◌-◌, ◌<◌, ◌≤◌, refl, sym, ◌∙◌, ap}
 use Rattle.std.proofs.Common.{subst, arith, length, get_or, take, drop, length-append}
+use Rattle.std.proofs.lemmas.Bool.{cases_lt}
 use Rattle.std.proofs.lemmas.List.{append-nil, take-append-drop, take_at, drop_at, drop_more}
 use Rattle.ideal_tri.specs.Curves.{IsSameCurve}
 use Rattle.ideal_tri.specs.LabelLaws.{OrderLaws}
@@ -50,6 +51,20 @@ inverse_more w n k x is_n inside is_x =
 pub record NoneBefore (w back : List ℤ) (k : ℕ) : Type 0 where
   pub on : (j : ℕ) → j < k → IsWordBefore (turned j w) w → ⊥
   pub return : (j : ℕ) → j < k → IsWordBefore (turned j back) w → ⊥
+
+-- with one more rotation each way
+pub none_more : (w back : List ℤ) (k : ℕ) → NoneBefore w back k → (IsWordBefore (turned k w) w → ⊥)
+    → (IsWordBefore (turned k back) w → ⊥) → NoneBefore w back (k + 1)
+none_more w back k none on return = record {
+  on = λ j below. up_to w j (cases_lt j k) (none.on j) on (omega arith);
+  return = λ j below. up_to back j (cases_lt j k) (none.return j) return (omega arith);
+}
+  where
+    up_to : (v : List ℤ) (j : ℕ) → (j < k) ⊎ (k ≤ j) → (j < k → IsWordBefore (turned j v) w → ⊥)
+        → (IsWordBefore (turned k v) w → ⊥) → j ≤ k → IsWordBefore (turned j v) w → ⊥
+    up_to v j (inl less) before here within = before less
+    up_to v j (inr most) before here within =
+        let same : k ≡ j = omega arith in subst (λ (i : ℕ). IsWordBefore (turned i v) w → ⊥) same here
 
 pub is_least_from_none : WordLaws → OrderLaws → (w back : List ℤ) (n : ℕ) → NoneBefore w back n → length w ≤ n
     → 0 < length w → back ≡ inverse_word w → IsLeast w

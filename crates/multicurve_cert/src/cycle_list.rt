@@ -10,7 +10,7 @@ use crate::cycle_law::cycle_law;
 use crate::cycle_test::{is_cycle, visits};
 use crate::least_words::rank;
 use free_groupoid::Walk;
-use ideal_tri::{Label, Memory, Tri, label_laws, surface_laws, word_laws};
+use ideal_tri::{Label, Memory, Tri, label_laws, letter_laws, surface_laws, word_laws};
 use std::alloc::Global;
 
 /// The most letters of a cycle.
@@ -87,6 +87,7 @@ fn push_from(
 {
     label_laws();
     surface_laws();
+    letter_laws();
     word_laws();
     let count = word.len();
     let first = word[0];

@@ -6,7 +6,7 @@ ghost use Rattle.multicurve_cert.specs.Cycles.{IsCycle, letter_limit};
 ghost use Rattle.multicurve_cert.specs.inside.CycleParts.{Visits, VisitsOnce};
 
 use crate::least_words::is_least;
-use ideal_tri::{Label, Memory, Tri, label_laws, word_laws};
+use ideal_tri::{Label, Memory, Tri, label_laws, letter_laws};
 use std::alloc::Global;
 
 /// Whether a word of one to eight letters is a cycle: closed, with nothing to reduce, through no
@@ -31,7 +31,7 @@ fn is_loop(tri: &Tri, w: &[Label]) -> bool
     requires some { 0 < length w.now }
     ensures { IsTrue result ↔ IsReducedLoop tri.now w.now }
 {
-    word_laws();
+    letter_laws();
     label_laws();
     let mut last = w[w.len() - 1];
     for x in w {

@@ -5,7 +5,7 @@ ghost use Rattle.ideal_tri.specs.Words.{inverse_word};
 ghost use Rattle.multicurve_cert.specs.Cycles.{IsWordBefore};
 ghost use Rattle.multicurve_cert.specs.inside.CycleParts.{IsLeast};
 
-use ideal_tri::{Label, Memory, label_laws, word_laws};
+use ideal_tri::{Label, Memory, label_laws, letter_laws, word_laws};
 use std::alloc::Global;
 
 /// The place of a label in the order 0, -1, 1, -2, ..
@@ -23,6 +23,7 @@ fn is_word_before(v: &[Label], w: &[Label]) -> bool
     ensures { IsTrue result ↔ IsWordBefore v.now w.now }
 {
     label_laws();
+    letter_laws();
     for i in 0..v.len() {
         let (x, y) = (v[i], w[i]);
         if x != y {

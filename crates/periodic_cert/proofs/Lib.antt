@@ -1,4 +1,3 @@
-pub mod Repeats
 pub mod Turns
 pub mod Passing
 pub mod Reasons

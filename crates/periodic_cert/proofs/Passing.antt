@@ -1,6 +1,7 @@
 -- The first move after which the map has too many letters, in one turn more.
 use Rattle.std.proofs.Common.{ℕ, List, ◌++◌, ◌≡◌, ◌+◌, ◌<◌, sym, ◌∙◌, ap, subst, length, map, take, arith}
 use Rattle.std.specs.List.{repeat}
+use Rattle.std.proofs.Math.Seq.{take-append-add}
 use Rattle.std.proofs.lemmas.List.{length-append, length-map, take-map}
 use Rattle.tri_atlas.specs.Arena.{Arena, MoveHandle, IsArena, triangulation, step_of}
 use Rattle.tri_atlas.specs.AtlasLaws.{HandleLaws}
@@ -12,7 +13,6 @@ use Rattle.free_groupoid.specs.MapRefusals.{StaysWithin, IsPathRefusal, told}
 use Rattle.free_groupoid.specs.Periodic.{IsFirstPast, IsWithin}
 use Rattle.free_groupoid.specs.PeriodicLaws.{FoundLaws}
 use Rattle.free_groupoid.specs.declared.map.MapError.TheVariants.{CapPassed}
-use Rattle.periodic_cert.proofs.Repeats.{repeat_more, take-repeat_more, map-repeat}
 use Rattle.periodic_cert.proofs.Turns.{Turned, first_lead, leads_often, along_on, within_on}
 
 -- what the first i moves of a path do
@@ -54,11 +54,12 @@ module _ (arena : Arena) (handles : HandleLaws) (found : FoundLaws) (word : Move
   leads = leads_often arena (n + 1) word.moves 0 once
 
   do_all : map (step_of arena) all ≡ repeat (n + 1) (moves_of arena word)
-  do_all = map-repeat (step_of arena) (n + 1) word.moves
+  do_all = handles.repeated arena (n + 1) word.moves
 
   -- the moves of the earlier turns, and some more
   more_of_all : (made : ℕ) → take (length before + made) all ≡ before ++ take made word.moves
-  more_of_all made = take-repeat_more n made word.moves
+  more_of_all made =
+      ap (take (length before + made)) (handles.repeats.more n word.moves) ∙ take-append-add before word.moves made
 
   map_there : (made : ℕ) → new ≡ followed_along arena old (take made word.moves)
       → new ≡ followed_along arena (identity_map arena 0) (take (length before + made) all)
@@ -76,7 +77,7 @@ module _ (arena : Arena) (handles : HandleLaws) (found : FoundLaws) (word : Move
 
   long : length (repeat (n + 1) (moves_of arena word)) ≡ length before + length word.moves
   long =
-      ap length (sym do_all) ∙ length-map all (step_of arena) ∙ ap length (repeat_more n word.moves)
+      ap length (sym do_all) ∙ length-map all (step_of arena) ∙ ap length (handles.repeats.more n word.moves)
       ∙ length-append before word.moves
 
   letters_there : (made : ℕ) → new ≡ followed_along arena old (take made word.moves)

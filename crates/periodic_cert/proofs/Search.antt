@@ -22,19 +22,19 @@ pub record IsTried (arena : Arena) (word : MovePath) (cap n : ℕ) (reasons : Li
   pub turned : Turned arena word cap n now
   pub refuted : AreRefuted (triangulation arena 0) (moves_of arena word) n reasons
 
-module _ (arena : Arena) (word : MovePath) (path : IsPathIn arena word) (start : word.start ≡ 0) (end : word.end ≡ 0)
-    (sound : IsArena arena) (limit cap n : ℕ) (reasons : List DualWalk) (old : GroupoidMap)
+module _ (handles : HandleLaws) (arena : Arena) (word : MovePath) (path : IsPathIn arena word)
+    (start : word.start ≡ 0) (end : word.end ≡ 0) (sound : IsArena arena) (limit cap n : ℕ) (reasons : List DualWalk) (old : GroupoidMap)
     (tried : IsTried arena word cap n reasons old) where
   pub follows : word.start ≡ old.target
   follows = start ∙ sym (at_base arena word path start end sound cap n old tried.turned)
 
-  pub told_capped : HandleLaws → FoundLaws → (new : GroupoidMap) (letters : ℕ) → n + 1 ≤ limit
+  pub told_capped : FoundLaws → (new : GroupoidMap) (letters : ℕ) → n + 1 ≤ limit
       → IsPathRefusal arena old new word.moves cap (CapPassed letters)
       → IsCapped (triangulation arena 0) (moves_of arena word) limit cap (n + 1) letters (letters_of_walks reasons)
       × StartWithLetters (triangulation arena 0) reasons
-  told_capped handles found new letters within refusal =
+  told_capped found new letters within refusal =
       cap_passed _ _ limit cap n reasons tried.refuted within letters
-      (within_turns arena word path start end sound cap n old tried.turned found)
+      (within_turns arena word path start end sound cap n old tried.turned handles found)
       (passed arena handles found word cap n old new sound (once arena word path start end sound) tried.turned letters
       refusal)
 
@@ -43,14 +43,14 @@ module _ (arena : Arena) (word : MovePath) (path : IsPathIn arena word) (start :
       × StartWithLetters (triangulation arena 0) reasons
   told_refuted found full =
       all_refuted _ _ limit cap n reasons tried.refuted full
-      (within_turns arena word path start end sound cap n old tried.turned found)
+      (within_turns arena word path start end sound cap n old tried.turned handles found)
 
   -- the turn of the next power
   module _ (new : GroupoidMap) (is_new : new ≡ followed_along arena old word.moves)
       (stays : StaysWithin arena old word.moves cap) (maps : IsMapIn arena new) (triples : List (List ℤ))
       (is_base : triples ≡ triangulation arena 0) where
     turned : Turned arena word cap (n + 1) new
-    turned = turned_more arena word cap n old new tried.turned is_new stays maps
+    turned = turned_more handles arena word cap n old new tried.turned is_new stays maps
 
     pub to_base : IsSelfMap triples new
     to_base =
@@ -65,8 +65,8 @@ module _ (arena : Arena) (word : MovePath) (path : IsPathIn arena word) (start :
         let here : AreInnerPaths (triangulation arena 0) new paths =
         subst (λ (ts : List (List ℤ)). AreInnerPaths ts new paths) is_base are_paths in
         order_found _ _ limit cap n reasons tried.refuted within new paths
-        (within_turns arena word path start end sound cap _ new turned found)
-        (inner_turns arena word path start end sound cap _ new turned found paths here) here
+        (within_turns arena word path start end sound cap _ new turned handles found)
+        (inner_turns arena word path start end sound cap _ new turned handles found paths here) here
 
     pub tried_more : FoundLaws → (w : DualWalk) (more : List DualWalk) → IsFirstMoved triples new w
         → more ≡ reasons ++ (w ∷ []) → IsTried arena word cap (n + 1) more new
@@ -76,5 +76,5 @@ module _ (arena : Arena) (word : MovePath) (path : IsPathIn arena word) (start :
         record {
           turned = turned;
           refuted = refuted_more _ _ n reasons more w new tried.refuted pushed here
-              (moved_turns arena word path start end sound cap _ new turned found w here);
+              (moved_turns arena word path start end sound cap _ new turned handles found w here);
         }

@@ -2,7 +2,7 @@
 use Rattle.std.proofs.Common.{ℕ, zero, suc, List, [], ◌∷◌, ◌++◌, ◌≡◌, ◌+◌, refl, sym, ◌∙◌, ap, subst}
 use Rattle.std.proofs.Common.{map, take}
 use Rattle.std.specs.List.{repeat}
-use Rattle.tri_atlas.specs.Arena.{Arena, MoveHandle, IsArena, IsTriIn, triangulation, step_of, target_of}
+use Rattle.tri_atlas.specs.Arena.{Arena, MoveHandle, IsArena, IsTriIn, triangulation, target_of}
 use Rattle.tri_atlas.specs.AtlasLaws.{HandleLaws}
 use Rattle.tri_atlas.specs.Maps.{path_map}
 use Rattle.tri_atlas.specs.Moves.{Move}
@@ -13,7 +13,6 @@ use Rattle.free_groupoid.specs.MapRefusals.{StaysWithin}
 use Rattle.free_groupoid.specs.Periodic.{AreInnerWalks, IsFirstTest, IsWithin}
 use Rattle.free_groupoid.specs.PeriodicLaws.{FoundLaws}
 use Rattle.free_groupoid.specs.Walks.{DualWalk}
-use Rattle.periodic_cert.proofs.Repeats.{repeat_more, map-repeat}
 
 -- ---- moves after others
 
@@ -69,17 +68,17 @@ pub record Turned (arena : Arena) (word : MovePath) (cap n : ℕ) (now : Groupoi
   pub within : StaysWithin arena (identity_map arena 0) (repeat n word.moves) cap
   pub maps : IsMapIn arena now
 
-pub turned_more : (arena : Arena) (word : MovePath) (cap n : ℕ) (old new : GroupoidMap) → Turned arena word cap n old
+pub turned_more : HandleLaws → (arena : Arena) (word : MovePath) (cap n : ℕ) (old new : GroupoidMap) → Turned arena word cap n old
     → new ≡ followed_along arena old word.moves → StaysWithin arena old word.moves cap → IsMapIn arena new
     → Turned arena word cap (n + 1) new
-turned_more arena word cap n old new before is_new within maps =
+turned_more handles arena word cap n old new before is_new within maps =
     let f = identity_map arena 0 in
     let here = repeat n word.moves in
     record {
       map = is_new ∙ ap (λ (g : GroupoidMap). followed_along arena g word.moves) before.map
           ∙ sym (along_on arena f here word.moves)
-          ∙ ap (followed_along arena f) (sym (repeat_more n word.moves));
-      within = subst (λ (ms : List MoveHandle). StaysWithin arena f ms cap) (sym (repeat_more n word.moves))
+          ∙ ap (followed_along arena f) (sym (handles.repeats.more n word.moves));
+      within = subst (λ (ms : List MoveHandle). StaysWithin arena f ms cap) (sym (handles.repeats.more n word.moves))
           (within_on arena f here word.moves cap before.within
           (subst (λ (g : GroupoidMap). StaysWithin arena g word.moves cap) before.map within));
       maps = maps;
@@ -99,8 +98,8 @@ module _ (arena : Arena) (word : MovePath) (path : IsPathIn arena word) (start :
   in_turns : (n : ℕ) → IsPathIn arena (turns n)
   in_turns n = record { start_in = sound.base; end_in = sound.base; moves_lead = leads_often arena n word.moves 0 once }
 
-  turns_do : (n : ℕ) → moves_of arena (turns n) ≡ repeat n (moves_of arena word)
-  turns_do n = map-repeat (step_of arena) n word.moves
+  turns_do : HandleLaws → (n : ℕ) → moves_of arena (turns n) ≡ repeat n (moves_of arena word)
+  turns_do handles n = handles.repeated arena n word.moves
 
   module _ (cap n : ℕ) (now : GroupoidMap) (turned : Turned arena word cap n now) where
     pub at_base : now.target ≡ 0
@@ -121,22 +120,22 @@ module _ (arena : Arena) (word : MovePath) (path : IsPathIn arena word) (start :
       target = ap (triangulation arena) at_base;
     }
 
-    module _ (found : FoundLaws) where
+    module _ (handles : HandleLaws) (found : FoundLaws) where
       pub within_turns : IsWithin (triangulation arena 0) (repeat n (moves_of arena word)) cap
       within_turns =
-          subst (λ (ms : List Move). IsWithin (triangulation arena 0) ms cap) (turns_do n)
+          subst (λ (ms : List Move). IsWithin (triangulation arena 0) ms cap) (turns_do handles n)
           (found.within arena (turns n) cap sound (in_turns n) turned.within)
 
       pub inner_turns : (paths : List DualWalk) → AreInnerPaths (triangulation arena 0) now paths
           → AreInnerWalks (triangulation arena 0) (repeat n (moves_of arena word)) (map (λ w. w.letters) paths)
       inner_turns paths are_paths =
-          subst (λ (ms : List Move). AreInnerWalks (triangulation arena 0) ms (map (λ w. w.letters) paths)) (turns_do n)
+          subst (λ (ms : List Move). AreInnerWalks (triangulation arena 0) ms (map (λ w. w.letters) paths)) (turns_do handles n)
           (found.inner arena (turns n) paths sound (in_turns n) refl
           (subst (λ (f : GroupoidMap). AreInnerPaths (triangulation arena 0) f paths) turned.map are_paths))
 
       pub moved_turns : (w : DualWalk) → IsFirstMoved (triangulation arena 0) now w
           → IsFirstTest (triangulation arena 0) (path_map (repeat n (moves_of arena word))) w.letters
       moved_turns w is_moved =
-          subst (λ (ms : List Move). IsFirstTest (triangulation arena 0) (path_map ms) w.letters) (turns_do n)
+          subst (λ (ms : List Move). IsFirstTest (triangulation arena 0) (path_map ms) w.letters) (turns_do handles n)
           (found.moved arena (turns n) w sound (in_turns n) refl
           (subst (λ (f : GroupoidMap). IsFirstMoved (triangulation arena 0) f w) turned.map is_moved))

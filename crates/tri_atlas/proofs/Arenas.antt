@@ -19,12 +19,11 @@ use Rattle.ideal_tri.specs.FlipLaws.{OneFlipLaws, FlipLaws}
 use Rattle.ideal_tri.specs.Relabellings.{IsRelabelling}
 use Rattle.ideal_tri.specs.Triangulations.{IsTriangulation, IsLabel, edge_count}
 use Rattle.ideal_tri.specs.Labels.{edge_of}
-use Rattle.tri_atlas.specs.Moves.{Move, flip, unflip, relabel, IsMove, back_of}
+use Rattle.tri_atlas.specs.Moves.{Move, flip, unflip, relabel, IsMove}
 use Rattle.tri_atlas.specs.MapLaws.{MoveLaws}
-use Rattle.tri_atlas.specs.Paths.{is_flip}
 use Rattle.tri_atlas.specs.Arena.{Entry, Arena, EdgeHandle, MoveHandle, triangulation, entry_at, IsTriIn, IsEdgeIn}
 use Rattle.tri_atlas.specs.Arena.{IsMoveIn, IsEntryOf, IsArena, Grows, flip_of, flip_entry, source_of, target_of}
-use Rattle.tri_atlas.specs.Arena.{step_of, label_after, is_flipped_by, edge_after}
+use Rattle.tri_atlas.specs.Arena.{step_of, label_after, edge_after}
 
 -- ---- lists with one more element
 
@@ -235,15 +234,3 @@ edge_carried laws arena m e h here edge at =
       label = label_carried laws _ _ (step_of arena m) e.label (h.sound _ ends.0) (h.sound _ ends.1)
           (h.edges _ ends.0 ∙ sym (h.edges _ ends.1)) (leads laws arena m h here) label;
     }
-
--- a flip backwards takes the same edge away
-pub is_flipped_by-back : (m : Move) (x : ℤ) → is_flipped_by (back_of m) x ≡ is_flipped_by m x
-is_flipped_by-back (flip e a b c d) x = refl
-is_flipped_by-back (unflip e a b c d) x = refl
-is_flipped_by-back (relabel images) x = refl
-
--- and it is a flip
-pub is_flip-back : (m : Move) → is_flip (back_of m) ≡ is_flip m
-is_flip-back (flip e a b c d) = refl
-is_flip-back (unflip e a b c d) = refl
-is_flip-back (relabel images) = refl

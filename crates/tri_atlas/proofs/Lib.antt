@@ -6,9 +6,12 @@ pub mod FlipImages
 pub mod Flips
 pub mod Moves
 pub mod Paths
+pub mod JoinedPaths
+pub mod Repeats
 pub mod Arenas
 pub mod Kept
 pub mod AtlasPaths
 pub mod Growth
 pub mod Ways
 pub mod Vectors
+pub mod FlipPaths

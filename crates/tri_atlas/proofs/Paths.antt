@@ -15,7 +15,6 @@ use Rattle.ideal_tri.specs.Words.{reduce}
 use Rattle.ideal_tri.specs.Triangulations.{IsTriangulation, IsLabel}
 use Rattle.tri_atlas.specs.Moves.{Move, back_of, ArePath, back_along}
 use Rattle.tri_atlas.specs.Maps.{IsOdd, identity, after, image_of_letter, map_behind, path_map}
-use Rattle.tri_atlas.specs.MapLaws.{PathLaws}
 use Rattle.tri_atlas.proofs.LowerLaws.{LowerLaws}
 use Rattle.tri_atlas.proofs.Substitutions.{reduce-flat_map_reduce, flat_map-respects, flat_map-after, IsOdd-after}
 use Rattle.tri_atlas.proofs.Substitutions.{flat_map-identity, flat_map-same, flat_map-same_at}
@@ -40,6 +39,9 @@ module _ (laws : LowerLaws) where
   map_behind-reduced f (m ∷ moves) h x =
       map_behind-reduced (after (image_of_letter m) f) moves
       (λ y. laws.words.reduction.twice (flat_map (image_of_letter m) (f y))) x
+
+  pub path_map-reduced : (moves : List Move) (x : ℤ) → reduce (path_map moves x) ≡ path_map moves x
+  path_map-reduced moves x = map_behind-reduced identity moves (λ y. refl) x
 
   -- a path behind a map is the map of the path, after the first map
   map_behind-is : (f : ℤ → List ℤ) (moves : List Move) → ((x : ℤ) → reduce (f x) ≡ f x)
@@ -79,10 +81,10 @@ module _ (laws : LowerLaws) where
       → path_map (first ++ second) x ≡ after (path_map second) (path_map first) x
   path_map-join first second x =
       map_behind-append identity first second x
-      ∙ map_behind-is (path_map first) second (map_behind-reduced identity first (λ y. refl)) x
+      ∙ map_behind-is (path_map first) second (path_map-reduced first) x
 
   -- the map of a path is that of its first move, and then that of the others
-  path_map-cons : (m : Move) (moves : List Move) (x : ℤ)
+  pub path_map-cons : (m : Move) (moves : List Move) (x : ℤ)
       → path_map (m ∷ moves) x ≡ after (path_map moves) (image_of_letter m) x
   path_map-cons m moves x =
       map_behind-is (after (image_of_letter m) identity) moves
@@ -128,14 +130,3 @@ module _ (laws : LowerLaws) where
       (image_of_letter-labels laws before between m x move l)
       (λ y k. path_undone between target moves y b rest k)
       ∙ move_undone laws before between m x t b move l
-
-  -- ---- the laws
-
-  pub path_laws : PathLaws
-  path_laws = record {
-    odd = path_map-odd;
-    reduced = λ moves x. map_behind-reduced identity moves (λ y. refl) x;
-    join = path_map-join;
-    cons = path_map-cons;
-    undo = path_undone;
-  }

@@ -20,6 +20,7 @@ use Rattle.tri_atlas.specs.Paths.{MovePath, Lead, IsPathIn, moves_of, triangle_a
 use Rattle.tri_atlas.specs.AtlasLaws.{HandleLaws, WayLaws}
 use Rattle.tri_atlas.proofs.Arenas.{ends_in, leads}
 use Rattle.tri_atlas.proofs.AtlasPaths.{source_of-back, target_of-back}
+use Rattle.tri_atlas.proofs.Repeats.{repeat_laws, map-repeat}
 use Rattle.tri_atlas.proofs.WalkMaps.{IsMap-same}
 
 -- ---- moves
@@ -145,6 +146,8 @@ handle_laws laws = record {
   back_source = source_of-back;
   back_target = target_of-back;
   back = step_of-back laws;
+  repeats = repeat_laws MoveHandle;
+  repeated = λ arena n moves. map-repeat (step_of arena) n moves;
 }
 
 pub way_laws : MapLaws → WayLaws

@@ -1,10 +1,11 @@
 -- What holds of atlases as they grow, of their moves, and of their paths.
-use Rattle.std.specs.Prelude.{◌≡◌, ◌<◌, ℕ, ℤ, List, ◌++◌, length}
-use Rattle.std.specs.List.{flat_map}
+use Rattle.std.specs.Prelude.{◌≡◌, ◌<◌, ℕ, ℤ, List, ◌++◌, length, map}
+use Rattle.std.specs.List.{flat_map, repeat}
 use Rattle.ideal_tri.specs.Words.{reduce}
 use Rattle.ideal_tri.specs.Triangulations.{IsWalk}
 use Rattle.tri_atlas.specs.Moves.{IsMove, ArePath, back_of, back_along}
 use Rattle.tri_atlas.specs.Maps.{IsMap, image_of_letter, path_map}
+use Rattle.tri_atlas.specs.MapLaws.{RepeatLaws}
 use Rattle.tri_atlas.specs.Arena.{Arena, EdgeHandle, MoveHandle, triangulation, source_of}
 use Rattle.tri_atlas.specs.Arena.{target_of}
 use Rattle.tri_atlas.specs.Arena.{step_of, back, IsTriIn, IsEdgeIn, IsMoveIn, IsArena, Grows}
@@ -48,6 +49,9 @@ pub record HandleLaws : Type 0 where
       (image_of_letter (step_of arena m)) (triangle_across arena m)
   pub back : (arena : Arena) (m : MoveHandle) → IsArena arena → IsMoveIn arena m
       → step_of arena (back m) ≡ back_of (step_of arena m)
+  pub repeats : RepeatLaws MoveHandle
+  pub repeated : (arena : Arena) (n : ℕ) (moves : List MoveHandle)
+      → map (step_of arena) (repeat n moves) ≡ repeat n (map (step_of arena) moves)
 
 -- so do paths, and theirs too
 pub record WayLaws : Type 0 where

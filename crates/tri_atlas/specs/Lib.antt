@@ -3,6 +3,7 @@ pub mod Maps
 pub mod MapLaws
 pub mod Arena
 pub mod Paths
+pub mod FlipPaths
 pub mod AtlasLaws
 pub mod Steps
 pub mod MovedVectors

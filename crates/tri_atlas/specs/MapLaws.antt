@@ -1,9 +1,10 @@
--- What holds of substitutions, of the maps of moves and paths, and of walks under maps.
-use Rattle.std.specs.Prelude.{◌≡◌, ◌<◌, ℕ, ℤ, List, [], ◌∷◌, ◌++◌, length}
-use Rattle.std.specs.List.{All, flat_map}
+-- What holds of substitutions, of moves and paths and their maps, and of walks under maps.
+use Rattle.std.specs.Prelude.{◌≡◌, ◌<◌, ◌+◌, ℕ, ℤ, List, [], ◌∷◌, ◌++◌, length}
+use Rattle.std.specs.List.{All, flat_map, repeat}
 use Rattle.ideal_tri.specs.Curves.{IsSameCurve}
 use Rattle.ideal_tri.specs.Words.{inverse_word, reduce, cyclic_reduce, IsRotation}
 use Rattle.ideal_tri.specs.Triangulations.{IsTriangulation, IsLabel, IsWalk}
+use Rattle.tri_atlas.specs.FlipPaths.{CanBeFlipped, flips_along, flipped_along}
 use Rattle.tri_atlas.specs.Maps.{IsOdd, identity, after, image_of_letter, path_map, IsMap}
 use Rattle.tri_atlas.specs.Moves.{Move, IsMove, back_of, ArePath, back_along, triangle_image}
 
@@ -54,8 +55,29 @@ pub record MoveLaws : Type 0 where
       → IsTriangulation target → IsMove before target m → t < length before
       → triangle_image target before (back_of m) (triangle_image before target m t) ≡ t
 
--- the maps of paths
+-- lists taken several times
+pub record RepeatLaws (A : Type 0) : Type 0 where
+  pub more : (n : ℕ) (xs : List A) → repeat (n + 1) xs ≡ repeat n xs ++ xs
+  pub join : (n m : ℕ) (xs : List A) → repeat (n + m) xs ≡ repeat n xs ++ repeat m xs
+
+-- paths follow each other, and lead back; and their maps
 pub record PathLaws : Type 0 where
+  pub append : (before between target : List (List ℤ)) (first second : List Move)
+      → ArePath before first between → ArePath between second target
+      → ArePath before (first ++ second) target
+  pub end : (before target : List (List ℤ)) (moves : List Move) → IsTriangulation before
+      → ArePath before moves target → IsTriangulation target
+  pub back : (before target : List (List ℤ)) (moves : List Move) → IsTriangulation before
+      → ArePath before moves target → ArePath target (back_along moves) before
+  pub back_append : (first second : List Move)
+      → back_along (first ++ second) ≡ back_along second ++ back_along first
+  pub back_twice : (before target : List (List ℤ)) (moves : List Move)
+      → ArePath before moves target → back_along (back_along moves) ≡ moves
+  pub repeats : RepeatLaws Move
+  -- ---- maps
+  pub maps : (before target : List (List ℤ)) (moves : List Move) → IsTriangulation before
+      → ArePath before moves target
+      → (triangles : ℕ → ℕ) × IsMap before target (path_map moves) triangles
   pub odd : (moves : List Move) → IsOdd (path_map moves)
   pub reduced : (moves : List Move) (x : ℤ) → reduce (path_map moves x) ≡ path_map moves x
   pub join : (first second : List Move) (x : ℤ)
@@ -66,9 +88,16 @@ pub record PathLaws : Type 0 where
       → ArePath before moves target → IsLabel before x
       → path_map (moves ++ back_along moves) x ≡ x ∷ []
 
+-- flips of flippable edges, one after another
+pub record FlipPathLaws : Type 0 where
+  pub path : (triples : List (List ℤ)) (edges : List ℕ) → IsTriangulation triples
+      → CanBeFlipped triples edges
+      → ArePath triples (flips_along triples edges) (flipped_along triples edges)
+
 -- all of them
 pub record MapLaws : Type 0 where
   pub substitutions : SubstitutionLaws
   pub walks : WalkMapLaws
   pub moves : MoveLaws
   pub paths : PathLaws
+  pub flips : FlipPathLaws

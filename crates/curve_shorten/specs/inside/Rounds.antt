@@ -6,7 +6,8 @@ use Rattle.ideal_tri.specs.Labels.{inverse}
 use Rattle.ideal_tri.specs.Triangulations.{next, previous}
 use Rattle.ideal_tri.specs.Vectors.{IsMulticurve}
 use Rattle.tri_atlas.specs.MovedVectors.{greater_sum, flipped_number}
-use Rattle.curve_shorten.specs.Descents.{IsFlippableEdge, total_flipped, vector_flipped}
+use Rattle.curve_shorten.specs.Descents.{total_flipped, vector_flipped}
+use Rattle.tri_atlas.specs.FlipPaths.{IsFlippableEdge}
 use Rattle.curve_shorten.specs.declared.rounds.Lowest.{Lowest}
 
 -- where there is an edge, its flip lowers the total to this one, and no edge before it as far

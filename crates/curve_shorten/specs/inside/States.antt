@@ -9,7 +9,8 @@ use Rattle.tri_atlas.specs.Paths.{IsPathIn, moves_of}
 use Rattle.edge_coords.specs.Coordinates.{Coordinates, AreCoordinatesIn}
 use Rattle.edge_coords.specs.MovedCoordinates.{moved_along}
 use Rattle.curve_shorten.specs.Descents.{vector_flipped, HasNoLower, IsBest, IsLevel}
-use Rattle.curve_shorten.specs.Descents.{HasEnded, IsDescent, flips_along}
+use Rattle.curve_shorten.specs.Descents.{HasEnded, IsDescent}
+use Rattle.tri_atlas.specs.FlipPaths.{flips_along}
 use Rattle.curve_shorten.specs.ShortCurves.{total_limit}
 use Rattle.curve_shorten.specs.declared.short.Short.{Short}
 

@@ -22,6 +22,7 @@ use Rattle.tri_atlas.proofs.Flips.{flip_edges}
 use Rattle.tri_atlas.proofs.LowerLaws.{LowerLaws}
 use Rattle.tri_atlas.proofs.Substitutions.{substitution_laws, flat_map-respects, flat_map-after}
 use Rattle.tri_atlas.proofs.Substitutions.{flat_map-identity, flat_map-same}
+use Rattle.tri_atlas.proofs.JoinedPaths.{path_end}
 use Rattle.tri_atlas.proofs.Paths.{path_map-odd, path_map-join, back_along-cons}
 use Rattle.tri_atlas.proofs.Vectors.Given.{Given}
 use Rattle.tri_atlas.proofs.Vectors.FlipLaws.{flip_laws, unflip_laws, image_of_curves}
@@ -43,11 +44,6 @@ move_edges laws before target (unflip e a b c d) h = sym (flip_edges laws target
 move_edges laws before target (relabel images) h = sym (laws.relabellings.edges before target images h)
 
 -- ---- paths
-
-pub path_end : (before target : List (List ℤ)) (moves : List Move) → IsTriangulation before
-    → ArePath before moves target → IsTriangulation target
-path_end before target [] p h = subst IsTriangulation h p
-path_end before target (m ∷ moves) p (between, b, move, rest) = path_end between target moves b rest
 
 pub path_edges : LowerLaws → (before target : List (List ℤ)) (moves : List Move) → ArePath before moves target
     → edge_count target ≡ edge_count before

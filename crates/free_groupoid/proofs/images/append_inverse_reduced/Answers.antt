@@ -1,4 +1,4 @@
-use Rattle.std.proofs.Common.{◌≡◌, ℤ, [], ◌∷◌, ◌++◌, refl, ap, subst, arith}
+use Rattle.std.proofs.Common.{◌≡◌, ◌-◌, ℕ, ℤ, [], ◌∷◌, ◌++◌, refl, ◌∙◌, ap, subst, arith, drop, length}
 use Rattle.std.proofs.lemmas.List.{drop_all}
 use Rattle.ideal_tri.specs.Labels.{inverse}
 use Rattle.ideal_tri.specs.Words.{inverse_word, reduce}
@@ -20,3 +20,9 @@ loop-k-preserved c =
     c.in_ok-push_reduced.ensures.value)
     (letters_back _ c.args.more.now _ c.loop-k.k c.index-more-count.result refl c.loop-k-test.true
     c.index-more-count.is)
+
+pub returns : goal.returns
+returns c =
+    let last : length c.args.more.now - c.loop-k.k ≡ 0 = omega arith in
+    c.loop-k.invariant.value
+    ∙ ap (λ (n : ℕ). reduce (c.args.word.now.items ++ inverse_word (drop n c.args.more.now))) last

@@ -18,7 +18,7 @@ loop-word-init c = record {
 pub is_kept-requires : goal.is_kept-requires
 is_kept-requires c =
     subst (IsBelow _) (sym c.deref.ensures.value)
-    (loop_below c.args.tri.now c.args.f.now _ c.requires
+    (loop_below c.args.tri.now c.args.f.now c.surface_laws.ensures _ c.requires
     (next_loop _ _ _ _ _ c.loop-word.invariant.search c.in-Some.ensures.steps.0))
 
 pub walk_of-requires : goal.walk_of-requires

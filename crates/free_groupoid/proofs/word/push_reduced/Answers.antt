@@ -13,7 +13,7 @@ returns-then-eq c =
     (Decides-int_eq c.index.result.now c.inverse.result).0 (sym c.eq.ensures ∙ c.if-eq.true) ∙ c.inverse.ensures in
     let value : c.truncate.new.self.items ≡ reduce (c.args.word.now.items ++ (c.args.x ∷ [])) =
     c.truncate.ensures.items
-    ∙ push_cancels c.label_laws.ensures c.word_laws.ensures.reduction _ _ c.args.x _ c.requires (omega arith) c.if-count-gt0.true
+    ∙ push_cancels c.label_laws.ensures c.word_laws.ensures.reduction c.letter_laws.ensures _ _ c.args.x _ c.requires (omega arith) c.if-count-gt0.true
     c.index.ensures opposite in
     record {
       value = value;
@@ -30,7 +30,7 @@ returns-in_ok-push c =
           (let apart : w.index.result.now ≢ inverse c.args.x =
           λ e. not_from_Decides _ (Decides-int_eq w.index.result.now w.inverse.result)
           (sym w.eq.ensures ∙ w.if-eq.false) (e ∙ sym w.inverse.ensures) in
-          push_on c.label_laws.ensures c.word_laws.ensures.reduction _ _ c.args.x _ c.requires (omega arith) (omega arith)
+          push_on c.label_laws.ensures c.word_laws.ensures.reduction c.letter_laws.ensures _ _ c.args.x _ c.requires (omega arith) (omega arith)
           w.index.ensures apart)
       | else-count-gt0-via-else-count-gt0 w ↦ push_first c.word_laws.ensures.reduction _ c.args.x (omega arith)
     ] in

@@ -14,7 +14,7 @@ loop-i-preserved c =
           (Decides-int_eq w.index.result.now w.inverse.result).0 (sym w.eq.ensures ∙ w.if-eq.true)
           ∙ w.inverse.ensures in
           rw (w.letters-is, w.top-is)
-          (cancelled c.label_laws.ensures c.word_laws.ensures.reduction _ _ _ _ _ _ c.loop-i.invariant (omega arith) (omega arith)
+          (cancelled c.label_laws.ensures c.word_laws.ensures.reduction c.letter_laws.ensures _ _ _ _ _ _ c.loop-i.invariant (omega arith) (omega arith)
           c.index-x.ensures w.index.ensures opposite))
       | else-top-gt0 w ↦
           rw (w.letters-is, w.top-is)
@@ -24,10 +24,10 @@ loop-i-preserved c =
                 λ e. not_from_Decides _ (Decides-int_eq w'.index.result.now w'.inverse.result) (sym w'.eq.ensures
                 ∙ w'.if-eq.false)
                 (e ∙ sym w'.inverse.ensures) in
-                pushed_on c.label_laws.ensures _ _ _ _ _ _ c.loop-i.invariant (omega arith) (omega arith) c.index-x.ensures w'.index.ensures
+                pushed_on c.label_laws.ensures c.word_laws.ensures.reduction c.letter_laws.ensures _ _ _ _ _ _ c.loop-i.invariant (omega arith) (omega arith) c.index-x.ensures w'.index.ensures
                 apart)
             | else-top-gt0-via-else-top-gt0 w' ↦
-                pushed_first _ _ _ _ _ c.loop-i.invariant (omega arith) c.index-x.ensures (omega arith)
+                pushed_first c.letter_laws.ensures _ _ _ _ _ c.loop-i.invariant (omega arith) c.index-x.ensures (omega arith)
           ])
     ]
 

@@ -2,13 +2,15 @@ use Rattle.ideal_tri.specs.WordLaws.{InverseLaws, RotationLaws, ReductionLaws, C
 use Rattle.ideal_tri.proofs.Reduction.{inverse_word-append, inverse_word-inverse_word, length-inverse_word}
 use Rattle.ideal_tri.proofs.Reduction.{All-inverse_word, IsReduced-reduce, reduce-fixed, reduce-reduce, reduce-append}
 use Rattle.ideal_tri.proofs.Reduction.{reduce-left, reduce-right, reduce-cancel, reduce-inverse_word, reduce-deletion}
-use Rattle.ideal_tri.proofs.Reduction.{reduce-reached, reduce-only, IsReduced-front}
+use Rattle.ideal_tri.proofs.Reduction.{reduce-reached, reduce-only, IsReduced-front, IsReduced-back}
+use Rattle.ideal_tri.proofs.Reduction.{IsReduced-glue, IsReduced-inverse_word}
 use Rattle.ideal_tri.proofs.Rotations.{Rotation-refl, Rotation-sym, Rotation-trans, Rotation-length}
 use Rattle.ideal_tri.proofs.Rotations.{Rotation-inverse_word, Rotation-map, is_rotation-test, is_same_curve-test}
 use Rattle.ideal_tri.proofs.Rotations.{SameCurve-refl, SameCurve-sym, SameCurve-trans}
 use Rattle.ideal_tri.proofs.Cyclic.{cyclic_reduce-cyclic, cyclic_reduce-fixed, cyclic_reduce-shape}
 use Rattle.ideal_tri.proofs.Cyclic.{cyclic_reduce-conjugate, conjugate_of_rotation, cyclic_reduce-rotation}
 use Rattle.ideal_tri.proofs.Cyclic.{cyclic_reduce-inverse_word, cyclic_reduce-same_curve, last_of-read}
+use Rattle.ideal_tri.proofs.Cyclic.{cyclic-reduced, cyclic-rotate, cyclic-inverse_word, length-cyclic_reduce}
 use Rattle.ideal_tri.proofs.laws.word_laws.Goals as goal
 
 inverses : InverseLaws
@@ -34,6 +36,9 @@ reduction = record {
   is_reduced = IsReduced-reduce;
   fixed = reduce-fixed;
   front = IsReduced-front;
+  back = IsReduced-back;
+  glue = IsReduced-glue;
+  turned = IsReduced-inverse_word;
   twice = reduce-reduce;
   append = reduce-append;
   left = reduce-left;
@@ -48,6 +53,10 @@ reduction = record {
 cyclic : CyclicLaws
 cyclic = record {
   is_reduced = cyclic_reduce-cyclic;
+  word = cyclic-reduced;
+  rotated = cyclic-rotate;
+  turned = cyclic-inverse_word;
+  no_longer = length-cyclic_reduce;
   fixed = cyclic_reduce-fixed;
   shape = cyclic_reduce-shape;
   conjugate = cyclic_reduce-conjugate;

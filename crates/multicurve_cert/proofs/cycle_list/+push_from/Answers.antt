@@ -18,7 +18,7 @@ returns-then-edge-clause-walks t c =
 pub returns-then-visits-clause-walks : goal.returns-then-visits-clause-walks
 returns-then-visits-clause-walks t c =
     let is_true : IsTrue c.visits.result = search rules in
-    adds_nothing c.args.tri.now c.args.word.now.items c.args.n c.len-count.result c.place.result.0 c.index-last.result.now
+    adds_nothing c.letter_laws.ensures c.args.tri.now c.args.word.now.items c.args.n c.len-count.result c.place.result.0 c.index-last.result.now
     c.inverse-back.result c.args.walks.now.items (search rules) (search rules) c.index-last.ensures (search rules)
     c.inverse-back.ensures c.place.ensures.triangle
     (subst (λ (w : List ℤ). Visits c.args.tri.now w c.place.result.0) c.deref-2.ensures.value
@@ -49,7 +49,7 @@ returns-clause-walks t c =
     (c.truncate.ensures.items ∙ ap (take c.len-count.result) c.in_ok-push_from.ensures.word) in
     let second : c.push-2.new.self.items ≡ c.args.word.now.items ++ (c.other_sides-x.result.1 ∷ []) =
     c.in_ok-push-2.ensures.items ∙ ap (λ (w : List ℤ). w ++ (c.other_sides-x.result.1 ∷ [])) cut in
-    adds_both c.args.tri.now c.args.word.now.items c.push.new.self.items c.push-2.new.self.items c.args.n
+    adds_both c.letter_laws.ensures c.args.tri.now c.args.word.now.items c.push.new.self.items c.push-2.new.self.items c.args.n
     c.len-count.result c.index-last.result.now c.inverse-back.result c.other_sides-x.result.0 c.other_sides-x.result.1
     c.args.walks.now.items c.push_from.new.walks.items c.push_from-2.new.walks.items (search rules) (search rules)
     c.index-last.ensures (search rules) c.inverse-back.ensures c.other_sides-x.ensures c.in_ok-push.ensures.items second

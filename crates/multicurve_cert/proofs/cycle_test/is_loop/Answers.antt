@@ -1,4 +1,4 @@
-use Rattle.std.proofs.Common.{rules, ◌≢◌, sym, ◌∙◌, ap, subst}
+use Rattle.std.proofs.Common.{rules, arith, length, ◌-◌, ◌≢◌, sym, ◌∙◌, ap, subst}
 use Rattle.std.proofs.lemmas.Bool.Decides.{Decides-int_eq, not_from_Decides}
 use Rattle.ideal_tri.specs.Labels.{inverse}
 use Rattle.ideal_tri.specs.Triangulations.{IsLabel, triangle_of}
@@ -7,7 +7,10 @@ use Rattle.multicurve_cert.proofs.CycleTests.{loop_from_last, last_from_loop}
 use Rattle.multicurve_cert.proofs.cycle_test.is_loop.Goals as goal
 
 pub loop-x-init : goal.loop-x-init
-loop-x-init c = follows_none _ _ _ (let label : IsLabel c.args.tri.now c.index-w-w.result = search rules in label)
+loop-x-init c =
+    follows_none _ _ _
+    (subst (IsLabel c.args.tri.now) (sym c.index-w-w.is)
+    (c.requires.labels (length c.args.w.now - 1) c.index-w-w.result (omega (arith, c.requires.some))))
 
 pub place-requires : goal.place-requires
 place-requires c =
@@ -21,7 +24,8 @@ loop-x-preserved c =
     (sym c.eq.ensures ∙ c.if-eq.false)
     (e ∙ sym c.inverse-back.ensures) in
     follows_more _ _ _ _ _ _ c.loop-x.invariant c.loop-x-test.true c.x-item.is
-    (let label : IsLabel c.args.tri.now c.x-item.result = search rules in label) (
+    (subst (IsLabel c.args.tri.now) (sym c.x-item.is)
+    (c.requires.labels c.loop-x.x-index c.x-item.result c.loop-x-test.true)) (
       ap (triangle_of c.args.tri.now) (sym c.inverse-back.ensures) ∙ sym c.place.ensures.triangle ∙ c.if-place.false
           ∙ c.place-in-loop-x.ensures.triangle,
       apart,
@@ -31,7 +35,7 @@ pub returns-then-place : goal.returns-then-place
 returns-then-place c = (
   λ t. search rules,
   λ h. let follows = follows_here _ _ _ _ _ _ c.loop-x.invariant c.loop-x-test.true c.x-item.is
-      (last_from_loop c.word_laws.ensures _ _ _ c.index-w-w.is h) in
+      (last_from_loop c.letter_laws.ensures _ _ _ c.index-w-w.is h) in
       absurd (c.if-place.true (c.place.ensures.triangle
       ∙ ap (triangle_of c.args.tri.now) c.inverse-back.ensures ∙ follows.0 ∙ sym c.place-in-loop-x.ensures.triangle)),
 )
@@ -40,7 +44,7 @@ pub returns-then-eq : goal.returns-then-eq
 returns-then-eq c = (
   λ t. search rules,
   λ h. let follows = follows_here _ _ _ _ _ _ c.loop-x.invariant c.loop-x-test.true c.x-item.is
-      (last_from_loop c.word_laws.ensures _ _ _ c.index-w-w.is h) in
+      (last_from_loop c.letter_laws.ensures _ _ _ c.index-w-w.is h) in
       absurd (follows.1
       ((Decides-int_eq c.x-item.result c.inverse-back.result).0 (sym c.eq.ensures ∙ c.if-eq.true)
       ∙ c.inverse-back.ensures)),
@@ -48,7 +52,7 @@ returns-then-eq c = (
 
 pub returns : goal.returns
 returns c = (
-  λ t. loop_from_last c.word_laws.ensures _ _ _ c.requires.labels c.requires.some c.index-w-w.is
+  λ t. loop_from_last c.letter_laws.ensures _ _ _ c.requires.labels c.requires.some c.index-w-w.is
       (follows_all _ _ _ _ _ c.loop-x.invariant c.loop-x-test.false),
   λ h. search rules,
 )

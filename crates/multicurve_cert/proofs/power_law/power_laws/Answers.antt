@@ -10,7 +10,7 @@ returns c =
     let arena : Arena = c.args.atlas.now in
     let sound = c.base.ensures.sound.sound 0 c.base.ensures.sound.base in
     power_laws (triangulation arena 0) (moves_of arena c.args.word.now) c.vector_laws.ensures
-    (c.drawing_laws.ensures (triangulation arena 0) sound) sound
+    c.map_laws.ensures.paths (c.drawing_laws.ensures (triangulation arena 0) sound) sound
     (subst (λ (t : ℕ). ArePath (triangulation arena 0) (moves_of arena c.args.word.now) (triangulation arena t))
     c.requires.end
     (subst (λ (s : ℕ). ArePath (triangulation arena s) (moves_of arena c.args.word.now)

@@ -1,8 +1,9 @@
 use Rattle.tri_atlas.proofs.LowerLaws.{LowerLaws}
+use Rattle.tri_atlas.proofs.FlipPaths.{flip_path_laws}
 use Rattle.tri_atlas.proofs.Substitutions.{substitution_laws}
 use Rattle.tri_atlas.proofs.WalkMaps.{walk_map_laws}
 use Rattle.tri_atlas.proofs.Moves.{move_laws}
-use Rattle.tri_atlas.proofs.Paths.{path_laws}
+use Rattle.tri_atlas.proofs.JoinedPaths.{path_laws}
 use Rattle.tri_atlas.proofs.laws.map_laws.Goals as goal
 
 pub returns : goal.returns
@@ -20,4 +21,5 @@ returns c =
       walks = walk_map_laws laws;
       moves = move_laws laws;
       paths = path_laws laws;
+      flips = flip_path_laws laws;
     }

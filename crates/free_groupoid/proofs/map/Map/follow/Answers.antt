@@ -23,7 +23,7 @@ words_read c = ap words_of c.as_slice.ensures ∙ ap (λ (f : GroupoidMap). f.im
 pub moved_words-requires : goal.moved_words-requires
 moved_words-requires c =
     subst (All (IsBelow EDGES)) (sym (words_read (goal.at.moved_words-requires c).After-as_slice))
-    (images_few c.args.atlas.now c.args.self.now c.base.ensures.sound c.requires.map)
+    (images_few c.surface_laws.ensures c.args.atlas.now c.args.self.now c.base.ensures.sound c.requires.map)
 
 pub moved_triangles-self-inside-requires-clause-within : goal.moved_triangles-self-inside-requires-clause-within
 moved_triangles-self-inside-requires-clause-within c =
@@ -46,7 +46,7 @@ made_images c =
     (ap (λ (f : GroupoidMap). f.images) c.self.view_is) c.as_slice.ensures c.step-step.ensures
     (c.in_ok-images.ensures n
     (subst (All (IsBelow n)) (sym (ap words_of c.as_slice.ensures ∙ ap (λ (f : GroupoidMap). f.images) c.self.view_is))
-    (images_labelled c.args.atlas.now c.args.self.now c.args.m c.requires.map c.requires.follows)))
+    (images_labelled c.args.atlas.now c.args.self.now c.args.m c.requires.map c.requires.follows c.surface_laws.ensures)))
 
 made_triangles : (c : After-moved_triangles-self-inside)
     → take c.self.inside.count c.moved_triangles-self-inside.result

@@ -8,7 +8,7 @@ use Rattle.free_groupoid.proofs.map.Map.image.Goals as goal
 pub substituted-requires : goal.substituted-requires
 substituted-requires c =
     let (arena, h, walk) = c.requires in
-    below_read _ _ _ _ _ _ (walk_below arena _ _ h walk) (ap (λ (f : GroupoidMap). f.images) c.self.view_is)
+    below_read _ _ _ _ _ _ (walk_below arena c.surface_laws.ensures _ _ h walk) (ap (λ (f : GroupoidMap). f.images) c.self.view_is)
     (ap (λ (w : DualWalk). w.letters) c.w.view_is) c.as_slice.ensures c.deref.ensures.value
 
 pub returns-clause-walks : goal.returns-clause-walks

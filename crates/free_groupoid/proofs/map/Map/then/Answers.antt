@@ -8,7 +8,7 @@ use Rattle.free_groupoid.proofs.map.Map.then.Goals as goal
 pub composed_words-requires : goal.composed_words-requires
 composed_words-requires c =
     let (arena, h, k) = c.requires.maps in
-    all_below_read _ _ _ _ _ _ (images_below arena _ _ h k c.requires.follows) (ap (λ (f : GroupoidMap). f.images)
+    all_below_read _ _ _ _ _ _ (images_below arena c.surface_laws.ensures _ _ h k c.requires.follows) (ap (λ (f : GroupoidMap). f.images)
     c.self.view_is) c.as_slice.ensures
     (ap (λ (f : GroupoidMap). f.images) c.next.view_is) c.as_slice-2.ensures
 

@@ -9,7 +9,7 @@ core : (c : In-Some) → IsLabel c.args.tri.now c.in-Some.x.now
     c.args.tri.now c.in-Some.x.now)
 core c =
     let closed = rw (← c.self.view_is) at c.requires in
-    first_of_core c.args.tri.now (c.surface_laws.ensures.walks _ c.triangles.ensures.sound) c.word_laws.ensures
+    first_of_core c.args.tri.now (c.surface_laws.ensures.walks _ c.triangles.ensures.sound)
     _ _ _ _ _
     closed.closed c.cyclic_reduce.ensures c.deref.ensures.value (omega (arith, c.in-Some.ensures.item.3.0))
     c.in-Some.ensures.item.1
