@@ -10,7 +10,7 @@ use Rattle.surface_lib.specs.declared.version.Version.TheVariants.{One}
 use Rattle.surface_lib.specs.GeneratorFiles.{new_name, form_of}
 use Rattle.surface_lib.specs.TwistForms.{twist_form}
 use Rattle.surface_lib.specs.declared.generators.Form.TheVariants.{Flips, Twist}
-use Rattle.surface_lib.specs.declared.twist_form.Hand.TheVariants.{Minus}
+use Rattle.surface_lib.specs.declared.twister.Hand.TheVariants.{Minus}
 use Rattle.surface_lib.specs.declared.surface_error.Key.TheVariants.{Name, Hand}
 use Rattle.surface_lib.specs.declared.surface_error.GeneratorFault.TheVariants.{MissingKey, BadName}
 use Rattle.surface_lib.specs.declared.surface_error.GeneratorFault.TheVariants.{SameName, NotEdge, NotFlippable}

@@ -46,19 +46,16 @@ reverse-map f (m ∷ u) =
     ∙ sym (map-append f (reverse u) (m ∷ []))
     ∙ sym (ap (map f) (reverse-append (m ∷ []) u))
 
-repeat-map : {M N : Type 0} (f : M → N) (n : ℕ) (u : List M) → map f (repeat n u) ≡ repeat n (map f u)
-repeat-map f zero u = refl
-repeat-map f (suc n) u = map-append f u (repeat n u) ∙ ap (λ (z : List _). map f u ++ z) (repeat-map f n u)
-
 -- ---- generators whose moves are mapped
 
 abbrev pub mapped : {M N : Type 0} → (M → N) → Generator M → Generator N
 mapped f g = record { spelt = g.spelt; moves = map f g.moves }
 
--- a map that keeps how moves are turned round, and which are flips
+-- a map that keeps how moves are turned round, and which are flips, and that goes with lists taken several times
 pub record IsKept {M N : Type 0} (from : Kind M) (to : Kind N) (f : M → N) : Type 0 where
   pub turned : (m : M) → f (from.turned m) ≡ to.turned (f m)
   pub flips : (m : M) → to.is_flip (f m) ≡ from.is_flip m
+  pub repeated : (n : ℕ) (u : List M) → map f (repeat n u) ≡ repeat n (map f u)
 
 -- what a map makes of the answer of a reading
 abbrev pub result_map : {A B : Type 0} → (A → B) → Result A WordError → Result B WordError
@@ -174,7 +171,7 @@ module _ {M N : Type 0} (from : Kind M) (to : Kind N) (f : M → N) (kept : IsKe
   moves_carried = record {
     none = refl;
     joined = map-append f;
-    taken = λ k u. repeat-map f k.times (if k.backwards then backwards from.turned u else u)
+    taken = λ k u. kept.repeated k.times (if k.backwards then backwards from.turned u else u)
         ∙ ap (λ (z : List N). repeat k.times z) (turned_if k.backwards u);
     named = λ moves. refl;
   }
@@ -242,7 +239,11 @@ turned_past arena m past =
     by false = refl
 
 step_kept : HandleLaws → (arena : Arena) → IsArena arena → IsKept (handles_kind arena) moves_kind (step_of arena)
-step_kept laws arena sound = record { turned = λ m. by m (cases_lt m.number (length arena.moves)); flips = λ m. refl }
+step_kept laws arena sound = record {
+  turned = λ m. by m (cases_lt m.number (length arena.moves));
+  flips = λ m. refl;
+  repeated = laws.repeated arena;
+}
   where
     by : (m : MoveHandle) → (m.number < length arena.moves) ⊎ (length arena.moves ≤ m.number)
         → step_of arena (back m) ≡ back_of (step_of arena m)

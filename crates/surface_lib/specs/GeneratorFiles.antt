@@ -15,6 +15,7 @@ use Rattle.surface_lib.specs.Products.{product_form}
 use Rattle.surface_lib.specs.Readings.{if_ok}
 use Rattle.surface_lib.specs.Spelling.{is_generator_name}
 use Rattle.surface_lib.specs.TwistForms.{IsReadAsTwist}
+use Rattle.surface_lib.specs.Twists.{TwistRelation}
 use Rattle.surface_lib.specs.declared.generators.Form.{Form}
 use Rattle.surface_lib.specs.declared.generators.Form.TheVariants.{Flips, Twist, Product}
 use Rattle.surface_lib.specs.declared.version.Version.{Version}
@@ -59,11 +60,11 @@ form_of version d =
     else Flips
 
 -- what the generator does that an object is, behind the earlier ones; or its first fault
-abbrev pub IsReadAs : Form → List (List ℤ) → List NamedMoves → Data
+abbrev pub IsReadAs : TwistRelation → Form → List (List ℤ) → List NamedMoves → Data
     → Result (List Move) GeneratorFault → Type 0
-IsReadAs Flips base earlier d result = IsReadAsFlips base d result
-IsReadAs Twist base earlier d result = IsReadAsTwist base d result
-IsReadAs Product base earlier d result = result ≡ product_form earlier d
+IsReadAs twists Flips base earlier d result = IsReadAsFlips base d result
+IsReadAs twists Twist base earlier d result = IsReadAsTwist twists base d result
+IsReadAs twists Product base earlier d result = result ≡ product_form earlier d
 
 -- ---- the list
 
@@ -72,20 +73,20 @@ with_name spelt (Ok moves) = Ok (record { spelt = spelt; moves = moves })
 with_name spelt (Err fault) = Err fault
 
 -- the generator that an entry is behind the earlier ones, or its first fault
-abbrev pub IsGeneratorRead : Version → List (List ℤ) → List NamedMoves → Data
+abbrev pub IsGeneratorRead : TwistRelation → Version → List (List ℤ) → List NamedMoves → Data
     → Result NamedMoves GeneratorFault → Type 0
-IsGeneratorRead version base earlier d result =
+IsGeneratorRead twists version base earlier d result =
     MatchResult (new_name earlier d)
-    (λ spelt. (moves : Result (List Move) GeneratorFault) × IsReadAs (form_of version d) base earlier d moves
-    × (result ≡ with_name spelt moves))
+    (λ spelt. (moves : Result (List Move) GeneratorFault)
+    × IsReadAs twists (form_of version d) base earlier d moves × (result ≡ with_name spelt moves))
     (λ fault. result ≡ Err fault)
 
 -- the earlier generators and those of the entries behind them, the first of which has the index i;
 -- or the first refusal
-abbrev pub AreGeneratorsRead : Version → List (List ℤ) → ℕ → List NamedMoves → List Data
-    → Result (List NamedMoves) SurfaceError → Type 0
-AreGeneratorsRead version base i earlier [] result = result ≡ Ok earlier
-AreGeneratorsRead version base i earlier (d ∷ ds) result =
-    (read : Result NamedMoves GeneratorFault) × IsGeneratorRead version base earlier d read
-    × MatchResult read (λ g. AreGeneratorsRead version base (i + 1) (earlier ++ g ∷ []) ds result)
+abbrev pub AreGeneratorsRead : TwistRelation → Version → List (List ℤ) → ℕ → List NamedMoves
+    → List Data → Result (List NamedMoves) SurfaceError → Type 0
+AreGeneratorsRead twists version base i earlier [] result = result ≡ Ok earlier
+AreGeneratorsRead twists version base i earlier (d ∷ ds) result =
+    (read : Result NamedMoves GeneratorFault) × IsGeneratorRead twists version base earlier d read
+    × MatchResult read (λ g. AreGeneratorsRead twists version base (i + 1) (earlier ++ g ∷ []) ds result)
     (λ fault. result ≡ Err (Generator i fault))

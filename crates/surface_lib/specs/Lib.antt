@@ -9,6 +9,7 @@ pub mod Described
 pub mod Readings
 pub mod Products
 pub mod FlipsForms
+pub mod Twists
 pub mod TwistForms
 pub mod GeneratorFiles
 pub mod SurfaceKeys

@@ -9,6 +9,7 @@ use Rattle.ideal_tri.specs.declared.tri.TriError.TheVariants as tri
 use Rattle.surface_lib.specs.Described.{Described, NamedMoves}
 use Rattle.surface_lib.specs.GeneratorFiles.{AreGeneratorsRead}
 use Rattle.surface_lib.specs.SurfaceKeys.{Keys, keys_in}
+use Rattle.surface_lib.specs.Twists.{TwistRelation}
 use Rattle.surface_lib.specs.declared.surface_error.SurfaceError.{SurfaceError}
 use Rattle.surface_lib.specs.declared.surface_error.SurfaceError.TheVariants.{FileTooLong, NotJson}
 use Rattle.surface_lib.specs.declared.surface_error.SurfaceError.TheVariants.{NoTriangle}
@@ -63,31 +64,32 @@ with_generators keys (Ok generators) = Ok (record {
 })
 with_generators keys (Err e) = Err e
 
-abbrev pub IsReadingOfGenerators : Keys → Result Described SurfaceError → Type 0
-IsReadingOfGenerators keys r =
+abbrev pub IsReadingOfGenerators : TwistRelation → Keys → Result Described SurfaceError → Type 0
+IsReadingOfGenerators twists keys r =
     (generators : Result (List NamedMoves) SurfaceError)
-    × AreGeneratorsRead keys.version keys.triangles 0 [] keys.entries generators
+    × AreGeneratorsRead twists keys.version keys.triangles 0 [] keys.entries generators
     × (r ≡ with_generators keys generators)
 
 -- the reading of a file with these keys
-abbrev pub IsReadingOfKeys : Result Keys SurfaceError → Result Described SurfaceError → Type 0
-IsReadingOfKeys (Err e) r = r ≡ Err e
-IsReadingOfKeys (Ok keys) r =
+abbrev pub IsReadingOfKeys : TwistRelation → Result Keys SurfaceError → Result Described SurfaceError
+    → Type 0
+IsReadingOfKeys twists (Err e) r = r ≡ Err e
+IsReadingOfKeys twists (Ok keys) r =
     ((e : SurfaceError) × IsRefusedBase keys.version keys.triangles e × (r ≡ Err e))
     ⊎ (IsBase keys.version keys.triangles
     × ((generator_limit < length keys.entries
     × (r ≡ Err (TooManyGenerators (length keys.entries))))
-    ⊎ (length keys.entries ≤ generator_limit × IsReadingOfGenerators keys r)))
+    ⊎ (length keys.entries ≤ generator_limit × IsReadingOfGenerators twists keys r)))
 
 -- the file is JSON of this tree
 pub record IsTree (file : List ℕ) (d : Data) : Type 0 where
   pub utf8 : IsUtf8 file
   pub parsed : read file ≡ Some d
 
--- the reading of a file
-abbrev pub IsReadingOf : List ℕ → Result Described SurfaceError → Type 0
-IsReadingOf file r =
+-- the reading of a file, where twists have this meaning
+abbrev pub IsReadingOf : TwistRelation → List ℕ → Result Described SurfaceError → Type 0
+IsReadingOf twists file r =
     (file_limit < length file × (r ≡ Err FileTooLong))
     ⊎ (length file ≤ file_limit
     × ((((d : Data) → ¬ IsTree file d) × (r ≡ Err NotJson))
-    ⊎ ((d : Data) × IsTree file d × IsReadingOfKeys (keys_in d) r)))
+    ⊎ ((d : Data) × IsTree file d × IsReadingOfKeys twists (keys_in d) r)))

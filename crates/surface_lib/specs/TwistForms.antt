@@ -1,26 +1,31 @@
 -- The form of a generator with a twist along a curve.
-use Rattle.std.specs.Prelude.{◌≡◌, ℕ, ℤ, pos, negsuc, List, Option, Some, None, Result, Ok, Err}
+use Rattle.std.specs.Prelude.{◌≡◌, ◌⊎◌, ℕ, ℤ, pos, negsuc, List, Option, Some, None, Result, Ok, Err}
 use Rattle.std.specs.Prelude.{option_and_then, codes, if◌then◌else◌, MatchResult}
 use Rattle.std.specs.Str.{bytes_eq}
 use Rattle.serde_json.specs.Data.{Data}
 use Rattle.serde_json.specs.Find.{as_str}
 use Rattle.ideal_tri.specs.Vectors.{IsMulticurve}
 use Rattle.tri_atlas.specs.Moves.{Move}
+use Rattle.edge_coords.specs.Coordinates.{Coordinates, total_of}
 use Rattle.edge_coords.specs.Refusals.{IsRefusedFor}
 use Rattle.edge_coords.specs.declared.coords.CoordsError.TheVariants.{WrongLength as WrongNumbers}
 use Rattle.edge_coords.specs.declared.coords.CoordsError.TheVariants.{OddTriangle as Odd}
 use Rattle.edge_coords.specs.declared.coords.CoordsError.TheVariants.{LongSide as Long}
 use Rattle.surface_lib.specs.Json.{all_read, list_in, whole_in}
 use Rattle.surface_lib.specs.Readings.{if_ok, read_at}
-use Rattle.surface_lib.specs.declared.twist_form.Hand.{Hand}
-use Rattle.surface_lib.specs.declared.twist_form.Hand.TheVariants.{Plus, Minus}
+use Rattle.surface_lib.specs.Twists.{TwistRelation}
+use Rattle.surface_lib.specs.declared.twister.Hand.{Hand}
+use Rattle.surface_lib.specs.declared.twister.Hand.TheVariants.{Plus, Minus}
+use Rattle.surface_lib.specs.declared.twister.TwistError.TheVariants as error
 use Rattle.surface_lib.specs.declared.surface_error.Key.TheVariants.{Twist as TwistKey}
 use Rattle.surface_lib.specs.declared.surface_error.Key.TheVariants.{Hand as HandKey}
 use Rattle.surface_lib.specs.declared.surface_error.GeneratorFault.{GeneratorFault}
 use Rattle.surface_lib.specs.declared.surface_error.GeneratorFault.TheVariants.{WrongLength}
 use Rattle.surface_lib.specs.declared.surface_error.GeneratorFault.TheVariants.{OddTriangle}
 use Rattle.surface_lib.specs.declared.surface_error.GeneratorFault.TheVariants.{LongSide}
-use Rattle.surface_lib.specs.declared.surface_error.GeneratorFault.TheVariants.{TwistsNotBuilt}
+use Rattle.surface_lib.specs.declared.surface_error.GeneratorFault.TheVariants.{TotalOver}
+use Rattle.surface_lib.specs.declared.surface_error.GeneratorFault.TheVariants.{NotOneCurve}
+use Rattle.surface_lib.specs.declared.surface_error.GeneratorFault.TheVariants.{Peripheral, Stuck}
 
 -- ---- vectors
 
@@ -59,20 +64,37 @@ twist_form d =
     if_ok (read_at HandKey (codes "hand") hand_in d) (λ hand.
     Ok (record { vector = vector; hand = hand })))
 
--- why the vector gives no twist: it is that of no multicurve; one that is waits for twists to be
--- built
+-- why the vector is that of no multicurve
 abbrev pub IsFaultOfVector : List (List ℤ) → List ℕ → GeneratorFault → Type 0
 IsFaultOfVector base vector (WrongLength n) = IsRefusedFor base vector (WrongNumbers n)
 IsFaultOfVector base vector (OddTriangle t) = IsRefusedFor base vector (Odd t)
 IsFaultOfVector base vector (LongSide t) = IsRefusedFor base vector (Long t)
-IsFaultOfVector base vector TwistsNotBuilt = IsMulticurve base vector
 IsFaultOfVector base vector fault = ⊥
 
-abbrev pub IsTwistAlong : List (List ℤ) → TwistForm → Result (List Move) GeneratorFault → Type 0
-IsTwistAlong base form (Ok moves) = ⊥
-IsTwistAlong base form (Err fault) = IsFaultOfVector base form.vector fault
+-- why there is no twist about a multicurve
+abbrev pub IsFaultOfCurve : TwistRelation → List (List ℤ) → TwistForm → GeneratorFault → Type 0
+IsFaultOfCurve twists base form (TotalOver n) =
+    twists base form.vector form.hand (Err (error.TotalOver n))
+IsFaultOfCurve twists base form NotOneCurve =
+    twists base form.vector form.hand (Err error.NotOneCurve)
+IsFaultOfCurve twists base form Peripheral = twists base form.vector form.hand (Err error.Peripheral)
+IsFaultOfCurve twists base form (Stuck n) =
+    (at : Coordinates) × twists base form.vector form.hand (Err (error.Stuck at))
+    × (n ≡ total_of at.numbers)
+IsFaultOfCurve twists base form fault = ⊥
+
+-- the moves of the twist, or the first fault of its vector
+abbrev pub IsTwistAlong : TwistRelation → List (List ℤ) → TwistForm
+    → Result (List Move) GeneratorFault → Type 0
+IsTwistAlong twists base form (Ok moves) =
+    IsMulticurve base form.vector × twists base form.vector form.hand (Ok moves)
+IsTwistAlong twists base form (Err fault) =
+    IsFaultOfVector base form.vector fault
+    ⊎ (IsMulticurve base form.vector × IsFaultOfCurve twists base form fault)
 
 -- the generator with a twist that an object is, or its first fault
-abbrev pub IsReadAsTwist : List (List ℤ) → Data → Result (List Move) GeneratorFault → Type 0
-IsReadAsTwist base d result =
-    MatchResult (twist_form d) (λ form. IsTwistAlong base form result) (λ fault. result ≡ Err fault)
+abbrev pub IsReadAsTwist : TwistRelation → List (List ℤ) → Data
+    → Result (List Move) GeneratorFault → Type 0
+IsReadAsTwist twists base d result =
+    MatchResult (twist_form d) (λ form. IsTwistAlong twists base form result)
+    (λ fault. result ≡ Err fault)

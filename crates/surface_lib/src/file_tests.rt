@@ -1,5 +1,6 @@
 // Surface files, and the built-in surfaces.
 use super::*;
+use crate::twister_tests::PlusAlone;
 use std::alloc::{AllocError, Global};
 use std::test::Fail;
 
@@ -11,6 +12,9 @@ const SPHERES: &str = "[[0,1,2],[-1,-3,-2],[3,4,5],[-4,-6,-5]]";
 
 /// The rotation of one.
 const TURN: &str = r#"{"name":"r","flips":[],"relabel":[1,2,0]}"#;
+
+/// The twist about a curve round one of its vertices.
+const TWIST: &str = r#"{"name":"t","twist":[1,1,0],"hand":"plus"}"#;
 
 fn file_of(
     alloc: Global,
@@ -25,7 +29,7 @@ fn file_of(
 }
 
 fn refusal_of(alloc: Global, file: &str) -> Option<SurfaceError> {
-    read_surface(alloc, file.as_bytes()).err()
+    read_surface(alloc, file.as_bytes(), &mut PlusAlone).err()
 }
 
 #[test]
@@ -33,11 +37,12 @@ fn reads_files(rt: HostRuntime) -> Result<(), Fail> {
     let alloc = rt.alloc();
     for (version, triangles, generators, edges, count) in [
         (1, SPHERE, TURN, 3, 1),
+        (1, SPHERE, TWIST, 3, 1),
         (2, SPHERE, "", 3, 0),
         (2, SPHERES, "", 6, 0),
     ] {
         let file = file_of(alloc, version, triangles, generators)?;
-        let s = read_surface(alloc, file.as_bytes())
+        let s = read_surface(alloc, file.as_bytes(), &mut PlusAlone)
             .ok()
             .expect(&rt, "a surface");
         let base = s.atlas.base();

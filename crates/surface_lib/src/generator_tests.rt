@@ -2,6 +2,7 @@
 use super::*;
 use crate::generators::read_generators;
 use crate::json::list_in;
+use crate::twister_tests::PlusAlone;
 use crate::version::Version;
 use ideal_tri::Tri;
 use indexmap::IndexMap;
@@ -32,7 +33,7 @@ fn moves_of_a(alloc: Global, triangles: &[[i32; 3]], list: &str) -> Result<usize
         atlas,
         generators: IndexMap::new(alloc),
     };
-    read_generators(alloc, &mut s, Version::One, entries)?;
+    read_generators(alloc, &mut s, Version::One, entries, &mut PlusAlone)?;
     match s.generators.get("a") {
         Some(path) => Ok(path.moves().len()),
         None => Ok(0),
@@ -50,6 +51,7 @@ fn lists(rt: HostRuntime) -> Result<(), Fail> {
 {"name":"a","relabel":[0,1,2],"flips":[0,0,0,0]}]"#,
             5,
         ),
+        (r#"[{"name":"a","twist":[1,1,0],"hand":"plus"}]"#, 0),
     ] {
         assert_eq!(rt; moves_of_a(alloc, &TORUS, list), Ok(moves), "{list}");
     }
@@ -129,7 +131,7 @@ const FAULTS: [(&str, GeneratorFault); 22] = [
     ),
     (
         r#"[{"name":"a","twist":[1,1,0],"hand":"minus"}]"#,
-        GeneratorFault::TwistsNotBuilt,
+        GeneratorFault::NotOneCurve,
     ),
 ];
 

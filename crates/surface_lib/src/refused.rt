@@ -1,5 +1,6 @@
 //! Why a generator is not read.
 use crate::surface_error::GeneratorFault;
+use crate::twister::TwistError;
 use ideal_tri::Memory;
 
 /// Why a generator is not read.
@@ -30,5 +31,22 @@ impl From<GeneratorFault> for Refused {
 
     fn from(fault: GeneratorFault) -> Refused {
         Refused::Fault(fault)
+    }
+}
+
+impl From<TwistError> for Refused {
+    ghost use Rattle.std.specs.Prelude.{◌≡◌};
+    ghost use Rattle.surface_lib.specs.inside.Faults.{twist_refused};
+
+    ghost from_gives = { λ error refused. refused ≡ twist_refused error };
+
+    fn from(error: TwistError) -> Refused {
+        Refused::Fault(match error {
+            TwistError::TotalOver { total } => GeneratorFault::TotalOver(total),
+            TwistError::NotOneCurve => GeneratorFault::NotOneCurve,
+            TwistError::Peripheral => GeneratorFault::Peripheral,
+            TwistError::Stuck { at } => GeneratorFault::Stuck(at.total()),
+            TwistError::Memory => return Refused::Memory,
+        })
     }
 }

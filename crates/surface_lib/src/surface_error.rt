@@ -61,7 +61,7 @@ pub enum GeneratorFault {
     OddTriangle(u64),
     /// One side of this triangle is longer than the other two together.
     LongSide(u64),
-    /// The coordinates of a twist's curve have this sum, which is too large.
+    /// The coordinates of a twist's curve have this sum: above 4,096.
     TotalOver(u128),
     /// The vector of a twist is not one curve.
     NotOneCurve,
@@ -69,8 +69,6 @@ pub enum GeneratorFault {
     Peripheral,
     /// The descent of a twist's curve ended with this sum, above 2.
     Stuck(u128),
-    /// Twists are not built yet.
-    TwistsNotBuilt,
     /// The word of a product has this refusal, which is never `Memory`.
     Word(WordError),
 }

@@ -13,6 +13,7 @@ use crate::generators::read_generators;
 use crate::surface::Surface;
 use crate::surface_error::SurfaceError;
 use crate::surface_keys::keys_in;
+use crate::twister::Twister;
 use crate::version::Version;
 use ideal_tri::{Tri, TriError};
 use serde_json::Value;
@@ -43,11 +44,18 @@ impl From<TriError> for SurfaceError {
 
 /// The surface that a file describes, or the first refusal: `FileTooLong`, `NotJson`; the root and
 /// its keys in order; the triangles, as `Tri::from_triples` tests them in version 1, and
-/// `Tri::from_components` in version 2; then the number of generators, and each of them.
-pub fn read_surface(alloc: Global, bytes: &[u8]) -> Result<Surface, SurfaceError>
+/// `Tri::from_components` in version 2; then the number of generators, and each of them. The twister
+/// gives the paths of generators that are twists.
+pub fn read_surface<T: Twister>(
+    alloc: Global,
+    bytes: &[u8],
+    twister: &mut T,
+) -> Result<Surface, SurfaceError>
     ensures surface { IfOk result IsSurface }
-    ensures read { IfOk result (λ s. IsReadingOf bytes.now (Ok (described s))) }
-    ensures refused { IfErr result (λ e. (e ≡ Memory) ⊎ IsReadingOf bytes.now (Err e)) }
+    ensures read { IfOk result (λ s. IsReadingOf T.twists bytes.now (Ok (described s))) }
+
+    // Want of memory is a free answer.
+    ensures refused { IfErr result (λ e. (e ≡ Memory) ⊎ IsReadingOf T.twists bytes.now (Err e)) }
 {
     if bytes.len() > FILE_LIMIT {
         return Err(SurfaceError::FileTooLong);
@@ -57,16 +65,20 @@ pub fn read_surface(alloc: Global, bytes: &[u8]) -> Result<Surface, SurfaceError
         Err(error) if error.is_memory() => return Err(SurfaceError::Memory),
         Err(_) => return Err(SurfaceError::NotJson),
     };
-    surface_in(alloc, &tree)
+    surface_in(alloc, &tree, twister)
 }
 
 /// The surface that a tree describes.
-fn surface_in(alloc: Global, tree: &Value) -> Result<Surface, SurfaceError>
+fn surface_in<T: Twister>(
+    alloc: Global,
+    tree: &Value,
+    twister: &mut T,
+) -> Result<Surface, SurfaceError>
     ensures surface { IfOk result IsSurface }
     ensures read { IfOk result (λ s.
-        IsReadingOfKeys (keys_in (view tree.now)) (Ok (described s))) }
+        IsReadingOfKeys T.twists (keys_in (view tree.now)) (Ok (described s))) }
     ensures refused { IfErr result (λ e.
-        (e ≡ Memory) ⊎ IsReadingOfKeys (keys_in (view tree.now)) (Err e)) }
+        (e ≡ Memory) ⊎ IsReadingOfKeys T.twists (keys_in (view tree.now)) (Err e)) }
 {
     let keys = keys_in(alloc, tree)?;
     let mut surface = base_of(alloc, keys.version, keys.name, &keys.triangles)?;
@@ -74,7 +86,7 @@ fn surface_in(alloc: Global, tree: &Value) -> Result<Surface, SurfaceError>
     if count > GENERATOR_LIMIT {
         return Err(SurfaceError::TooManyGenerators(count as u64));
     }
-    read_generators(alloc, &mut surface, keys.version, keys.entries)?;
+    read_generators(alloc, &mut surface, keys.version, keys.entries, twister)?;
     Ok(surface)
 }
 

@@ -5,10 +5,11 @@ ghost use Rattle.std.specs.Option.{option_map};
 ghost use Rattle.serde_json.specs.View.{view};
 ghost use Rattle.tri_atlas.specs.Arena.{triangulation, Grows};
 ghost use Rattle.tri_atlas.specs.Paths.{moves_of};
+ghost use Rattle.edge_coords.specs.Coordinates.{AreCoordinatesIn};
 ghost use Rattle.surface_lib.specs.Readings.{read_at};
 ghost use Rattle.surface_lib.specs.Surfaces.{IsLoop};
 ghost use Rattle.surface_lib.specs.TwistForms.{count_in, counts_in, hand_in, IsFaultOfVector};
-ghost use Rattle.surface_lib.specs.TwistForms.{IsReadAsTwist};
+ghost use Rattle.surface_lib.specs.TwistForms.{IsTwistAlong, IsReadAsTwist};
 ghost use Rattle.surface_lib.specs.inside.Faults.{IsFault};
 ghost use Rattle.surface_lib.specs.declared.surface_error.Key.TheVariants.{Twist as TwistKey};
 ghost use Rattle.surface_lib.specs.declared.surface_error.Key.TheVariants.{Hand as HandKey};
@@ -16,20 +17,12 @@ ghost use Rattle.surface_lib.specs.declared.surface_error.Key.TheVariants.{Hand 
 use crate::json::{list_in, whole_in};
 use crate::refused::Refused;
 use crate::surface_error::{GeneratorFault, Key};
+use crate::twister::{Hand, Twister};
 use edge_coords::{Coords, CoordsError};
 use ideal_tri::Memory;
 use serde_json::Value;
 use std::alloc::Global;
 use tri_atlas::{Atlas, Path, atlas_laws};
-
-/// The hand of a twist.
-#[derive(Clone, Copy, Debug, PartialEq, Eq)]
-pub(crate) enum Hand {
-    /// `plus`
-    Plus,
-    /// `minus`
-    Minus,
-}
 
 /// A whole number from `0` to `2^31 - 1`.
 fn count_in(value: &Value) -> Option<u128>
@@ -101,34 +94,66 @@ fn hand_at(entry: &Value) -> Result<Hand, GeneratorFault>
     Ok(hand)
 }
 
-/// Why there is no twist along the curve with a vector at the base: twists are not built yet.
-fn fault_of(atlas: &Atlas, vector: &[u128]) -> GeneratorFault
+/// The coordinates of a multicurve at the base.
+fn curve_at_base(atlas: &Atlas, vector: &[u128]) -> Result<Coords, Refused>
     requires { All (λ n. n < 2 ^ 31) vector.now }
-    ensures { IsFaultOfVector (triangulation atlas.now 0) vector.now result }
+    ensures value { IfOk result (λ c. c ≡ record { tri = 0; numbers = vector.now }) }
+    ensures here { IfOk result (AreCoordinatesIn atlas.now) }
+    ensures refused { IfErr result (IsFault
+        (IsFaultOfVector (triangulation atlas.now 0) vector.now)) }
 {
-    match Coords::new(atlas, atlas.base(), vector) {
-        Ok(_) => GeneratorFault::TwistsNotBuilt,
+    let fault = match Coords::new(atlas, atlas.base(), vector) {
+        Ok(curve) => return Ok(curve),
         Err(CoordsError::WrongLength(n)) => GeneratorFault::WrongLength(n),
         // numbers of 31 bits are not too large
         Err(CoordsError::TooLarge(_)) => unreachable!(),
         Err(CoordsError::OddTriangle(t)) => GeneratorFault::OddTriangle(t),
         Err(CoordsError::LongSide(t)) => GeneratorFault::LongSide(t),
-    }
+    };
+    Err(Refused::Fault(fault))
 }
 
-/// The path of a generator with a twist.
-pub(crate) fn twist_path(alloc: Global, atlas: &mut Atlas, entry: &Value) -> Result<Path, Refused>
+/// The path of the twist along a curve at the base.
+fn path_along<T: Twister>(
+    alloc: Global,
+    atlas: &mut Atlas,
+    vector: &[u128],
+    hand: Hand,
+    twister: &mut T,
+) -> Result<Path, Refused>
+    requires { All (λ n. n < 2 ^ 31) vector.now }
     ensures grows { Grows atlas.old atlas.new }
     ensures closed { IfOk result (IsLoop atlas.new) }
     ensures base { OnOk result (triangulation atlas.new 0 ≡ triangulation atlas.old 0) }
     ensures short { IfOk result (λ p. length p.moves < 2 ^ 31) }
-    ensures read { IfOk result (λ p. IsReadAsTwist (triangulation atlas.old 0) (view entry.now)
-        (Ok (moves_of atlas.new p))) }
-    ensures refused { IfErr result (IsFault (λ fault.
-        IsReadAsTwist (triangulation atlas.old 0) (view entry.now) (Err fault))) }
+    ensures read { IfOk result (λ p. IsTwistAlong T.twists (triangulation atlas.old 0)
+        (record { vector = vector.now; hand = hand }) (Ok (moves_of atlas.new p))) }
+    ensures refused { IfErr result (IsFault (λ fault. IsTwistAlong T.twists
+        (triangulation atlas.old 0) (record { vector = vector.now; hand = hand }) (Err fault))) }
 {
     atlas_laws();
+    let curve = curve_at_base(atlas, vector)?;
+    let path = twister.compile(alloc, atlas, &curve, hand)?;
+    Ok(path)
+}
+
+/// The path of a generator with a twist.
+pub(crate) fn twist_path<T: Twister>(
+    alloc: Global,
+    atlas: &mut Atlas,
+    entry: &Value,
+    twister: &mut T,
+) -> Result<Path, Refused>
+    ensures grows { Grows atlas.old atlas.new }
+    ensures closed { IfOk result (IsLoop atlas.new) }
+    ensures base { OnOk result (triangulation atlas.new 0 ≡ triangulation atlas.old 0) }
+    ensures short { IfOk result (λ p. length p.moves < 2 ^ 31) }
+    ensures read { IfOk result (λ p. IsReadAsTwist T.twists (triangulation atlas.old 0)
+        (view entry.now) (Ok (moves_of atlas.new p))) }
+    ensures refused { IfErr result (IsFault (λ fault.
+        IsReadAsTwist T.twists (triangulation atlas.old 0) (view entry.now) (Err fault))) }
+{
     let vector = vector_at(alloc, entry)?;
-    let _hand = hand_at(entry)?;
-    Err(Refused::Fault(fault_of(atlas, &vector)))
+    let hand = hand_at(entry)?;
+    path_along(alloc, atlas, &vector, hand, twister)
 }

@@ -6,9 +6,10 @@ use Rattle.ideal_tri.specs.Flips.{flipped}
 use Rattle.ideal_tri.specs.Triangulations.{IsTriangulation, next, previous}
 use Rattle.ideal_tri.specs.Vectors.{IsMulticurve}
 use Rattle.tri_atlas.specs.Arena.{flip_of}
-use Rattle.tri_atlas.specs.Moves.{IsFlip, ArePath}
+use Rattle.tri_atlas.specs.Moves.{ArePath}
 use Rattle.tri_atlas.specs.MovedVectors.{vector_along}
-use Rattle.curve_shorten.specs.Descents.{IsDescent, ended, lowered, kept, IsFlippableEdge, flips_along, vector_flipped}
+use Rattle.curve_shorten.specs.Descents.{IsDescent, ended, lowered, kept, vector_flipped}
+use Rattle.tri_atlas.specs.FlipPaths.{IsFlippableEdge, flips_along}
 use Rattle.twist_compile.proofs.LowerLaws.{LowerLaws}
 
 -- the flips of these edges lead from the one triangulation and vector to the other, each a multicurve with free
@@ -19,20 +20,6 @@ pub record IsWayDown (triples : List (List ℤ)) (w edges : List ℕ) (end : Lis
   pub vector : v ≡ vector_along (flips_along triples edges) w
   pub multicurve : IsMulticurve end v
   pub free : HasFreeCorners end v
-
--- the flip of an edge, with its sides
-pub flip_at : (triples : List (List ℤ)) (e : ℕ) → IsFlippableEdge triples e
-    → IsFlip triples (flipped triples (pos e)) (pos e) (next triples (pos e)) (previous triples (pos e))
-    (next triples (inverse (pos e))) (previous triples (inverse (pos e)))
-flip_at triples e (label, flippable) = record {
-  label = label;
-  flippable = flippable;
-  side_a = refl;
-  side_b = refl;
-  side_c = refl;
-  side_d = refl;
-  result = refl;
-}
 
 module _ (laws : LowerLaws) where
   flipped_is : (triples : List (List ℤ)) (e : ℕ) → IsTriangulation triples → IsFlippableEdge triples e
@@ -46,7 +33,7 @@ module _ (laws : LowerLaws) where
       → IsWayDown triples w (e ∷ edges) end v
   way_from triples end w v edges e p h way = record {
     triangulation = way.triangulation;
-    path = (flipped triples (pos e), flipped_is triples e p h, flip_at triples e h, way.path);
+    path = (flipped triples (pos e), flipped_is triples e p h, laws.corners.is_flip triples e h, way.path);
     vector = way.vector;
     multicurve = way.multicurve;
     free = way.free;
@@ -58,14 +45,14 @@ module _ (laws : LowerLaws) where
       → IsMulticurve (flipped triples (pos e)) (vector_flipped triples w e)
   multicurve_flipped triples w e p h m =
       (laws.vectors.moves triples (flipped triples (pos e)) (flip_of triples (pos e)) w p (flipped_is triples e p h)
-      (flip_at triples e h) m).multicurve
+      (laws.corners.is_flip triples e h) m).multicurve
 
   free_flipped : (triples : List (List ℤ)) (w : List ℕ) (e : ℕ) → IsTriangulation triples
       → IsFlippableEdge triples e → IsMulticurve triples w → HasFreeCorners triples w
       → HasFreeCorners (flipped triples (pos e)) (vector_flipped triples w e)
   free_flipped triples w e p h m free =
       laws.corners.free triples (flipped triples (pos e)) (pos e) (next triples (pos e)) (previous triples (pos e))
-      (next triples (inverse (pos e))) (previous triples (inverse (pos e))) w p (flip_at triples e h) m free
+      (next triples (inverse (pos e))) (previous triples (inverse (pos e))) w p (laws.corners.is_flip triples e h) m free
 
   pub way_down : (triples : List (List ℤ)) (w edges : List ℕ) (end : List (List ℤ)) (v : List ℕ)
       → IsDescent triples w edges end v → IsTriangulation triples → IsMulticurve triples w → HasFreeCorners triples w

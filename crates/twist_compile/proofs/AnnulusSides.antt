@@ -29,10 +29,6 @@ pub record IsCrossed (triples : List (List ℤ)) (w : List ℕ) (x : ℤ) : Type
 
 -- ---- corners that are alone or two at their vertex
 
-stays : (triples : List (List ℤ)) (n : ℕ) (x : ℤ) → corner_step triples x ≡ x → corner_after triples n x ≡ x
-stays triples zero x is = refl
-stays triples (suc n) x is = ap (corner_after triples n) is ∙ stays triples n x is
-
 goes_between : (triples : List (List ℤ)) (n : ℕ) (x y : ℤ) → corner_step triples x ≡ y → corner_step triples y ≡ x
     → (corner_after triples n x ≡ x) ⊎ (corner_after triples n x ≡ y)
 goes_between triples zero x y there back = inl refl
@@ -71,7 +67,7 @@ module _ (labels : LabelLaws) (triples : List (List ℤ)) (t : TriangleLaws trip
   alone : (x : ℤ) → IsLabel triples x → next triples x ≡ inverse x → count x ≡ 0
   alone x l is =
       let (y, v, free) = h.free x l in
-      sym (ap count (stays triples v.steps x (ap inverse is ∙ labels.twice x))) ∙ ap count v.reached ∙ free
+      sym (ap count (t.alone v.steps x (ap inverse is ∙ labels.twice x))) ∙ ap count v.reached ∙ free
 
   not_folded : (x : ℤ) → IsLabel triples x → 0 < weight w x → next triples x ≢ inverse x
   not_folded x l some is =

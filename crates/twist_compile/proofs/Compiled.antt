@@ -14,8 +14,8 @@ use Rattle.tri_atlas.specs.MovedVectors.{flipped_edge}
 use Rattle.tri_atlas.specs.Paths.{MovePath, moves_of}
 use Rattle.twist_compile.proofs.Descents.{few_flips, edges_of_flips, as_many_flips}
 use Rattle.twist_compile.specs.TwistPaths.{IsCompiledFrom, IsTwistable, hand_moves}
-use Rattle.twist_compile.specs.declared.hand.Hand.{Hand}
-use Rattle.twist_compile.specs.declared.hand.Hand.TheVariants.{Plus, Minus}
+use Rattle.surface_lib.specs.declared.twister.Hand.{Hand}
+use Rattle.surface_lib.specs.declared.twister.Hand.TheVariants.{Plus, Minus}
 use Rattle.twist_compile.specs.inside.EndSteps.{end_moves}
 
 length_back : (moves : List Move) → length (back_along moves) ≡ length moves

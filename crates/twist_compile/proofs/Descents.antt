@@ -1,7 +1,8 @@
 -- How long a descent is, and which edges its flips change.
 use Rattle.std.proofs.Common.{ℕ, ℤ, pos, List, [], ◌∷◌, ◌≡◌, ◌≤◌, ◌+◌, ◌*◌, refl, ap, arith, length, map}
 use Rattle.std.specs.List.{sum}
-use Rattle.curve_shorten.specs.Descents.{IsDescent, flips_along, ended, lowered, kept}
+use Rattle.curve_shorten.specs.Descents.{IsDescent, ended, lowered, kept}
+use Rattle.tri_atlas.specs.FlipPaths.{flips_along}
 use Rattle.ideal_tri.specs.Flips.{flipped}
 use Rattle.tri_atlas.specs.MovedVectors.{flipped_edge}
 

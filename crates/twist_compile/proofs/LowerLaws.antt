@@ -12,7 +12,7 @@ use Rattle.ideal_tri.specs.TripleLaws.{TripleLaws}
 use Rattle.ideal_tri.specs.WordLaws.{WordLaws}
 use Rattle.tri_atlas.specs.MapLaws.{MapLaws}
 use Rattle.tri_atlas.specs.VectorLaws.{VectorLaws}
-use Rattle.curve_shorten.specs.FlippedCorners.{FlippedCornerLaws}
+use Rattle.curve_shorten.specs.FlippedCornerLaws.{FlippedCornerLaws}
 
 pub record LowerLaws : Type 0 where
   pub labels : LabelLaws

@@ -12,13 +12,13 @@ use Rattle.ideal_tri.specs.Vectors.{IsMulticurve}
 use Rattle.tri_atlas.specs.Maps.{path_map}
 use Rattle.tri_atlas.specs.Moves.{Move, ArePath, back_along}
 use Rattle.tri_atlas.specs.MovedVectors.{vector_along}
-use Rattle.curve_shorten.specs.Descents.{flips_along}
+use Rattle.tri_atlas.specs.FlipPaths.{flips_along}
 use Rattle.twist_compile.specs.TwistPaths.{IsCompiledFrom, plus_moves, hand_moves}
 use Rattle.twist_compile.specs.TwistLaws.{IsTwist, TwistLaws, hand_letter}
-use Rattle.twist_compile.specs.declared.hand.Hand.{Hand}
-use Rattle.twist_compile.specs.declared.hand.Hand.TheVariants.{Plus, Minus}
+use Rattle.surface_lib.specs.declared.twister.Hand.{Hand}
+use Rattle.surface_lib.specs.declared.twister.Hand.TheVariants.{Plus, Minus}
 use Rattle.twist_compile.proofs.LowerLaws.{LowerLaws}
-use Rattle.twist_compile.proofs.JoinedPaths.{ArePath-back, ArePath-around, back_along-around, path_map-around, path_undone}
+use Rattle.twist_compile.proofs.JoinedPaths.{ArePath-around, back_along-around, path_map-around, path_undone}
 use Rattle.twist_compile.proofs.JoinedPaths.{fixed_around, fixed_back}
 use Rattle.twist_compile.proofs.AlongDescents.{IsWayDown, way_down}
 use Rattle.twist_compile.proofs.Annuli.{IsAnnulusOf, annulus_of}
@@ -56,13 +56,8 @@ module _ (laws : LowerLaws) (triples : List (List ℤ)) (w : List ℕ) (t : IsTr
   around : (hand : Hand) (moves : List Move) → ArePath end moves end
       → ((x : ℤ) → IsLabel end x → path_map moves x ≡ hand_letter hand p q x)
       → vector_along moves from.numbers ≡ from.numbers
-      → IsTwist triples w hand (flips_along triples edges ++ (moves ++ back_along (flips_along triples edges)))
+      → IsTwist triples w edges p q hand (flips_along triples edges ++ (moves ++ back_along (flips_along triples edges)))
   around hand moves path acts fixed = record {
-    edges = edges;
-    end = end;
-    p = p;
-    q = q;
-    from = from;
     path = whole;
     map = λ x l. path_map-around laws triples end flips moves (hand_letter hand p q) x t way.path acts l;
     fixed =
@@ -74,19 +69,18 @@ module _ (laws : LowerLaws) (triples : List (List ℤ)) (w : List ℕ) (t : IsTr
       whole : ArePath triples (flips_along triples edges ++ (moves ++ back_along (flips_along triples edges))) triples
       whole = ArePath-around laws triples end flips moves t way.path path
 
-  pub hand_twist : (hand : Hand) → IsTwist triples w hand (hand_moves hand (plus_moves triples edges end p q))
+  pub hand_twist : (hand : Hand) → IsTwist triples w edges p q hand (hand_moves hand (plus_moves triples edges end p q))
   hand_twist Plus =
       around Plus middle there
       (annulus_map laws end way.triangulation from.numbers p q annulus (pos (edge_of q)) is_of) fixed_there
   hand_twist Minus =
-      subst (IsTwist triples w Minus) (sym (back_along-around laws triples end flips middle way.path))
-      (around Minus (back_along middle) (ArePath-back laws end end middle way.triangulation there)
+      subst (IsTwist triples w edges p q Minus) (sym (back_along-around laws triples end flips middle way.path))
+      (around Minus (back_along middle) (laws.maps.paths.back end end middle way.triangulation there)
       (annulus_back_map laws end way.triangulation from.numbers p q annulus (pos (edge_of q)) is_of)
       (fixed_back laws end end middle from.numbers way.triangulation there way.multicurve fixed_there))
 
 pub twist_laws : LowerLaws → TwistLaws
 twist_laws laws = record {
-  twist = λ triples w hand moves t m (twistable, (edges, end, p, q, from, is)).
-      subst (IsTwist triples w hand) (sym is)
-      (hand_twist laws triples w t m twistable.free edges end p q from hand);
+  twist = λ triples w edges end p q hand t m twistable from.
+      hand_twist laws triples w t m twistable.free edges end p q from hand;
 }

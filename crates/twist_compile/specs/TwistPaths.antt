@@ -9,13 +9,14 @@ use Rattle.ideal_tri.specs.Triangulations.{edge_count}
 use Rattle.tri_atlas.specs.Arena.{flip_of}
 use Rattle.tri_atlas.specs.Moves.{Move, relabel, back_along}
 use Rattle.edge_coords.specs.Coordinates.{total_of}
-use Rattle.curve_shorten.specs.Descents.{IsDescent, flips_along}
+use Rattle.curve_shorten.specs.Descents.{IsDescent}
+use Rattle.tri_atlas.specs.FlipPaths.{flips_along}
 use Rattle.curve_shorten.specs.ShortCurves.{IsOneCurve, IsSmall, total_limit}
 use Rattle.curve_shorten.specs.Twists.{IsAnnulus}
-use Rattle.twist_compile.specs.declared.hand.Hand.{Hand}
-use Rattle.twist_compile.specs.declared.hand.Hand.TheVariants.{Plus, Minus}
-use Rattle.twist_compile.specs.declared.hand.TwistError.{TwistError}
-use Rattle.twist_compile.specs.declared.hand.TwistError.TheVariants.{TotalOver, NotOneCurve, Peripheral, Stuck, Memory}
+use Rattle.surface_lib.specs.declared.twister.Hand.{Hand}
+use Rattle.surface_lib.specs.declared.twister.Hand.TheVariants.{Plus, Minus}
+use Rattle.surface_lib.specs.declared.twister.TwistError.{TwistError}
+use Rattle.surface_lib.specs.declared.twister.TwistError.TheVariants.{TotalOver, NotOneCurve, Peripheral, Stuck, Memory}
 
 -- ---- the steps
 

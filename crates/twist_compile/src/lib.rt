@@ -9,13 +9,17 @@
 //! The definitions stand in `specs/`: `TwistPaths` (the steps) and `TwistLaws` (what they do).
 #![tactic(auto)]
 
+mod compiler;
 mod end_steps;
-mod hand;
+#[cfg(test)]
+mod file_tests;
 mod laws;
+#[cfg(test)]
+mod relation_tests;
 #[cfg(test)]
 mod tests;
 mod twist_path;
 
-pub use hand::{Hand, TwistError};
+pub use compiler::Compiler;
 pub use laws::twist_laws;
 pub use twist_path::{TwistParts, twist, twist_parts};

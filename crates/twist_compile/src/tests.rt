@@ -6,12 +6,13 @@ ghost use Rattle.edge_coords.specs.Coordinates.{AreCoordinatesIn};
 ghost use Rattle.twist_compile.specs.inside.EndSteps.{HasTotalTwo};
 
 use crate::end_steps::{annulus, end_path, exchange};
-use crate::{Hand, TwistError, twist, twist_parts};
+use crate::{twist, twist_parts};
 use edge_coords::Coords;
 use ideal_tri::Tri;
 use std::alloc::AllocGlobal;
 use std::process::Abort;
 use std::test::Fail;
+use surface_lib::{Hand, TwistError};
 use tri_atlas::{Atlas, atlas_laws};
 
 const TORUS: [[i32; 3]; 2] = [[0, 1, 2], [-1, -2, -3]];

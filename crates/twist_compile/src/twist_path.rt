@@ -12,14 +12,14 @@ ghost use Rattle.twist_compile.specs.TwistPaths.{IsCompiled, IsCompiledFrom, IsT
 ghost use Rattle.twist_compile.specs.TwistPaths.{exchange_images, hand_moves};
 ghost use Rattle.twist_compile.specs.inside.EndSteps.{HasTotalTwo, end_moves, joined_three};
 ghost use Rattle.twist_compile.specs.inside.EndSteps.{IsSameRefusal};
-ghost use Rattle.twist_compile.specs.declared.hand.Hand.TheVariants.{Plus};
+ghost use Rattle.surface_lib.specs.declared.twister.Hand.TheVariants.{Plus};
 
 use crate::end_steps::{annulus, end_path, exchange};
-use crate::hand::{Hand, TwistError};
 use curve_shorten::{Short, ShortError, descend};
 use edge_coords::Coords;
 use ideal_tri::Memory;
 use std::alloc::Global;
+use surface_lib::{Hand, TwistError};
 use tri_atlas::{Atlas, MoveId, Path, Step, atlas_laws};
 
 /// The steps of the twist of hand plus about a curve.

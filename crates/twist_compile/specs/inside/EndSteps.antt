@@ -9,8 +9,8 @@ use Rattle.tri_atlas.specs.Paths.{MovePath}
 use Rattle.twist_compile.specs.TwistPaths.{exchange_images}
 use Rattle.curve_shorten.specs.declared.short.ShortError.{ShortError}
 use Rattle.curve_shorten.specs.declared.short.ShortError.TheVariants as short
-use Rattle.twist_compile.specs.declared.hand.TwistError.{TwistError}
-use Rattle.twist_compile.specs.declared.hand.TwistError.TheVariants as twist
+use Rattle.surface_lib.specs.declared.twister.TwistError.{TwistError}
+use Rattle.surface_lib.specs.declared.twister.TwistError.TheVariants as twist
 
 -- a multicurve with the total 2, none of whose curves runs round a vertex
 pub record HasTotalTwo (triples : List (List ℤ)) (w : List ℕ) : Type 0 where
