@@ -1,0 +1,9 @@
+pub mod CarriedMaps
+pub mod CarryingWalks
+pub mod Iterates
+pub mod IterateLaws
+pub mod Anchors
+pub mod AnchorAnswers
+pub mod AnchorLaws
+pub mod AgreementLaws
+pub mod inside
