@@ -1,4 +1,10 @@
 pub mod Lists
+pub mod Entries
+pub mod Digits
+pub mod Depths
+pub mod ReadBack
+pub mod CertificatesBack
 pub mod Floats
 pub mod FixedVectors
+pub mod CarriedTracks
 pub mod Meanings

@@ -1,6 +1,7 @@
 -- What certificates mean that hold. A periodic word's walks show that the power is inner, and the
 -- reason at place j - 1 is a closed walk that power j moves, so that no smaller power is. A reducible
--- word's multicurve has a drawing, and of each drawing the certificate says what is meant.
+-- word's multicurve has a drawing, and of each drawing the certificate says what is meant. A
+-- pseudo-Anosov word's track is carried, with all iterates of its closed walks.
 use Rattle.std.proofs.Common.{◌<◌, ℕ, zero, suc, ℤ, List, [], length, slice_index_or, subst, arith}
 use Rattle.std.specs.List.{repeat}
 use Rattle.std.proofs.Math.Numerals.{add-one}
@@ -8,15 +9,18 @@ use Rattle.ideal_tri.specs.DrawingLaws.{DrawingLaws}
 use Rattle.ideal_tri.specs.Drawings.{draw}
 use Rattle.ideal_tri.specs.Strands.{IsDrawing}
 use Rattle.ideal_tri.specs.Triangulations.{IsTriangulation}
+use Rattle.tri_atlas.specs.MapLaws.{MapLaws}
 use Rattle.tri_atlas.specs.Maps.{path_map}
 use Rattle.tri_atlas.specs.Moves.{Move}
 use Rattle.free_groupoid.specs.Inner.{IsKept}
 use Rattle.free_groupoid.specs.InnerLaws.{IsReducedLoop}
 use Rattle.free_groupoid.specs.Periodic.{IsPeriodic}
 use Rattle.free_groupoid.specs.PeriodicLaws.{PeriodicLaws}
-use Rattle.cert_text.specs.Certificates.{Certificate, periodic, reducible, unknown}
+use Rattle.carry_map.specs.IterateLaws.{IterateLaws}
+use Rattle.cert_text.specs.Certificates.{Certificate, periodic, reducible, pseudo_anosov, unknown}
 use Rattle.cert_text.specs.CertificateLaws.{IsFixedMulticurve, IsMeant}
 use Rattle.cert_text.specs.Holds.{IsPeriodicCertificate, IsReducibleCertificate, HoldsFor}
+use Rattle.cert_text.proofs.CarriedTracks.{carried_for_ever}
 
 -- each smaller power moves its reason
 refuted : (triples : List (List ℤ)) (moves : List Move) (order : ℕ) (paths reasons : List (List ℤ)) (j : ℕ)
@@ -48,10 +52,12 @@ fixed_multicurve triples moves coords drawings h =
     }
 
 pub meaning : (laws : PeriodicLaws) → ((triples : List (List ℤ)) → IsTriangulation triples → DrawingLaws triples)
-    → (triples : List (List ℤ)) (moves : List Move) (c : Certificate)
+    → MapLaws → IterateLaws → (triples : List (List ℤ)) (moves : List Move) (c : Certificate)
     → IsTriangulation triples → HoldsFor triples moves c → IsMeant triples moves c
-meaning laws drawings triples moves (periodic order paths reasons) sound h =
+meaning laws drawings maps iterates triples moves (periodic order paths reasons) sound h =
     least_power laws triples moves order paths reasons sound h
-meaning laws drawings triples moves (reducible coords) sound h =
+meaning laws drawings maps iterates triples moves (reducible coords) sound h =
     fixed_multicurve triples moves coords (drawings triples sound) h
-meaning laws drawings triples moves (unknown powers capped curves tracks) sound h = tt
+meaning laws drawings maps iterates triples moves (pseudo_anosov c) sound h =
+    carried_for_ever iterates maps triples moves c sound h
+meaning laws drawings maps iterates triples moves (unknown powers capped curves tracks) sound h = tt

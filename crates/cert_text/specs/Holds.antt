@@ -13,15 +13,9 @@ use Rattle.edge_coords.specs.declared.coords.TheConstants.{COORDINATE_LIMIT}
 use Rattle.free_groupoid.specs.Inner.{IsKept}
 use Rattle.free_groupoid.specs.InnerLaws.{IsReducedLoop}
 use Rattle.free_groupoid.specs.Periodic.{AreInnerWalks, IsWithin}
-use Rattle.cert_text.specs.Certificates.{Certificate, periodic, reducible, unknown}
-
--- the greatest order
-abbrev pub order_limit : ℕ
-order_limit = 1024
-
--- the most letters of a map after a move
-abbrev pub letter_cap : ℕ
-letter_cap = 262144
+use Rattle.cert_text.specs.Certificates.{Certificate, periodic, reducible, pseudo_anosov, unknown}
+use Rattle.cert_text.specs.Limits.{order_limit, letter_cap}
+use Rattle.cert_text.specs.PseudoAnosov.{IsPseudoAnosovCertificate}
 
 -- the power of this order is inner by these walks, one from each triangle in order; and for each
 -- smaller power there is a closed walk, cyclically reduced and not empty, that it doesn't carry to
@@ -55,4 +49,5 @@ abbrev pub HoldsFor : List (List ℤ) → List Move → Certificate → Type 0
 HoldsFor triples moves (periodic order paths reasons) =
     IsPeriodicCertificate triples moves order paths reasons
 HoldsFor triples moves (reducible coords) = IsReducibleCertificate triples moves coords
+HoldsFor triples moves (pseudo_anosov track) = IsPseudoAnosovCertificate triples moves track
 HoldsFor triples moves (unknown powers capped curves tracks) = Unit {0}

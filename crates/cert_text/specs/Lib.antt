@@ -1,4 +1,9 @@
 pub mod Certificates
+pub mod Limits
+pub mod PseudoAnosov
 pub mod Holds
 pub mod CertificateLaws
 pub mod Texts
+pub mod Shapes
+pub mod Reading
+pub mod inside

@@ -6,7 +6,8 @@ use Rattle.serde_json.specs.Data.{Items, no_items, item, Members, no_members, me
 use Rattle.serde_json.specs.Written.{compact_text}
 use Rattle.edge_coords.specs.declared.lines.CurveLine.{CurveLine}
 use Rattle.edge_coords.specs.declared.lines.CurveLine.TheVariants as curve
-use Rattle.cert_text.specs.Certificates.{Certificate, periodic, reducible, unknown}
+use Rattle.cert_text.specs.Certificates.{Anchored, Certificate}
+use Rattle.cert_text.specs.Certificates.{periodic, reducible, pseudo_anosov, unknown}
 use Rattle.cert_text.specs.declared.lines.TrackLine.{TrackLine}
 use Rattle.cert_text.specs.declared.lines.TrackLine.TheVariants as track
 
@@ -58,16 +59,39 @@ lines_data lines = array (list_of (map string lines))
 abbrev pub coords_data : List ℕ → Data
 coords_data coords = array (list_of (map (λ n. string (decimal n)) coords))
 
+abbrev pub numbers_data : List ℕ → Data
+numbers_data numbers = array (list_of (map natural numbers))
+
+-- a matrix is the list of its rows
+abbrev pub rows_data : List (List ℕ) → Data
+rows_data rows = array (list_of (map numbers_data rows))
+
+-- a list of the two
+abbrev pub pair_data : ℕ × ℕ → Data
+pair_data c = numbers_data (c.0 ∷ c.1 ∷ [])
+
 -- null, or a list of the power and the letters
 abbrev pub capped_data : Option (ℕ × ℕ) → Data
 capped_data None = null
-capped_data (Some c) = array (list_of (natural c.0 ∷ natural c.1 ∷ []))
+capped_data (Some c) = pair_data c
 
 -- ---- certificates
 
 abbrev pub members_of : List (List ℕ × Data) → Members
 members_of [] = no_members
 members_of (m ∷ ms) = member m.0 m.1 (members_of ms)
+
+abbrev pub anchor_data : Anchored → Data
+anchor_data a =
+    object
+    (members_of
+    ((codes "connect", walk_data a.connect)
+    ∷ (codes "switch", integer a.switch)
+    ∷ (codes "to", integer a.to)
+    ∷ []))
+
+abbrev pub anchors_data : List Anchored → Data
+anchors_data anchors = array (list_of (map anchor_data anchors))
 
 abbrev pub certificate_data : Certificate → Data
 certificate_data (periodic order paths reasons) =
@@ -83,6 +107,21 @@ certificate_data (reducible coords) =
     (members_of
     ((codes "coords", coords_data coords)
     ∷ (codes "kind", string (codes "reducible"))
+    ∷ []))
+certificate_data (pseudo_anosov track) =
+    object
+    (members_of
+    ((codes "anchors", anchors_data track.anchors)
+    ∷ (codes "exponent", natural track.exponent)
+    ∷ (codes "flips", numbers_data track.flips)
+    ∷ (codes "high", pair_data track.high)
+    ∷ (codes "images", walks_data track.images)
+    ∷ (codes "kind", string (codes "pseudo-anosov"))
+    ∷ (codes "left_out", walk_data track.left_out)
+    ∷ (codes "low", pair_data track.low)
+    ∷ (codes "matrix", rows_data track.matrix)
+    ∷ (codes "power", natural track.power)
+    ∷ (codes "u", numbers_data track.u)
     ∷ []))
 certificate_data (unknown powers capped curves tracks) =
     object

@@ -1,5 +1,6 @@
 //! What a certificate says.
 
+use crate::carried_track::Pa;
 use crate::lines::TrackLine;
 use edge_coords::CurveLine;
 
@@ -25,6 +26,9 @@ pub enum Certificate {
         /// The coordinates of the multicurve, one for each edge of the base, below 2^126.
         coords: Vec<u128>,
     },
+    /// The word is pseudo-Anosov, as far as that shows in a train track that fills and is carried:
+    /// every iterate of every closed legal walk grows between the bounds (Penner and Harer).
+    PseudoAnosov(Pa),
     /// There is no verdict within the budget.
     Unknown {
         /// For each power that was refuted, from the first, a closed walk that it moves.

@@ -1,5 +1,6 @@
 //! Why a candidate for a train track that a word carries doesn't pass.
-ghost use Rattle.std.specs.Prelude.{◌≡◌, string_bytes, IfOk};
+ghost use Rattle.std.specs.Prelude.{◌≡◌, string_bytes, IfOk, Some};
+ghost use Rattle.cert_text.specs.Shapes.{track_of};
 ghost use Rattle.cert_text.specs.Texts.{track_text, with_number};
 
 use ideal_tri::Memory;
@@ -48,7 +49,10 @@ pub enum TrackLine {
 impl TrackLine {
     /// The text of the line: the name of the test, and where it has one its number.
     pub(crate) fn text(self, alloc: Global) -> Result<String, Memory>
-        ensures { IfOk result (λ text. string_bytes text ≡ track_text self) }
+        ensures text { IfOk result (λ text. string_bytes text ≡ track_text self) }
+
+        // The line is read from its text.
+        ensures read_back { track_of (track_text self) ≡ Some self }
     {
         match self {
             TrackLine::TwoLeftOut { n } => with_number(alloc, "two_left_out", n),

@@ -111,3 +111,43 @@ fn texts(rt: HostRuntime) -> Result<(), Fail> {
     }
     Ok(())
 }
+
+/// Of the word `a.b` on the torus with one puncture: each branch goes over itself and the other.
+fn torus_track(alloc: Global) -> Result<Pa, Memory> {
+    let anchor = Anchor {
+        switch: 1,
+        to: 1,
+        connect: Vec::from_slice(alloc, &[-2, 2, -2])?,
+    };
+    let mut anchors = Vec::new(alloc);
+    anchors.push(anchor)?;
+    let mut matrix = Vec::new(alloc);
+    matrix.push(Vec::from_slice(alloc, &[1, 1])?)?;
+    matrix.push(Vec::from_slice(alloc, &[1, 2])?)?;
+    Ok(Pa {
+        power: 1,
+        flips: Vec::new(alloc),
+        left_out: Vec::from_slice(alloc, &[2, -3])?,
+        anchors,
+        images: walks_of(alloc, &[&[1, -3, 1, -1, 1], &[1, -3, 1, -1, 1, -3, 1]])?,
+        matrix,
+        exponent: 1,
+        u: Vec::from_slice(alloc, &[34, 55])?,
+        low: (89, 34),
+        high: (144, 55),
+    })
+}
+
+#[test]
+fn text_of_a_track(rt: HostRuntime) -> Result<(), Fail> {
+    let alloc = rt.alloc();
+    let text = concat!(
+        r#"{"anchors":[{"connect":[-2,2,-2],"switch":1,"to":1}],"exponent":1,"flips":[],"#,
+        r#""high":[144,55],"images":[[1,-3,1,-1,1],[1,-3,1,-1,1,-3,1]],"#,
+        r#""kind":"pseudo-anosov","left_out":[2,-3],"low":[89,34],"matrix":[[1,1],[1,2]],"#,
+        r#""power":1,"u":[34,55]}"#
+    );
+    let c = Certificate::PseudoAnosov(torus_track(alloc)?);
+    assert_eq!(rt; write(alloc, &c)?.as_slice(), text.as_bytes());
+    Ok(())
+}

@@ -1,0 +1,9 @@
+use Rattle.std.proofs.Common.{◌≡◌, map, take, Some}
+use Rattle.serde_json.specs.View.{view}
+use Rattle.cert_text.specs.Certificates.{anchors_seen}
+use Rattle.cert_text.specs.Shapes.{all_read, anchor_in}
+use Rattle.cert_text.proofs.shapes.anchors_in.Given as goal
+
+abbrev pub invariant-loop-entry : goal.invariant-loop-entry
+invariant-loop-entry l =
+    all_read anchor_in (map view (take l.entry-index l.list)) ≡ Some (anchors_seen l.anchors.items)

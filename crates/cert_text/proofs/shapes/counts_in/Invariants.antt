@@ -1,0 +1,7 @@
+use Rattle.std.proofs.Common.{◌≡◌, map, take, Some}
+use Rattle.serde_json.specs.View.{view}
+use Rattle.cert_text.specs.Shapes.{all_read, count_in}
+use Rattle.cert_text.proofs.shapes.counts_in.Given as goal
+
+abbrev pub invariant-loop-entry : goal.invariant-loop-entry
+invariant-loop-entry l = all_read count_in (map view (take l.entry-index l.list)) ≡ Some l.numbers.items

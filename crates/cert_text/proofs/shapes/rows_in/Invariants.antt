@@ -1,0 +1,9 @@
+use Rattle.std.proofs.Common.{◌≡◌, map, take, Some}
+use Rattle.serde_json.specs.View.{view}
+use Rattle.cert_text.specs.Certificates.{rows_of}
+use Rattle.cert_text.specs.Shapes.{all_read, list_in, natural_in}
+use Rattle.cert_text.proofs.shapes.rows_in.Given as goal
+
+abbrev pub invariant-loop-entry : goal.invariant-loop-entry
+invariant-loop-entry l =
+    all_read (list_in natural_in) (map view (take l.entry-index l.list)) ≡ Some (rows_of l.rows.items)

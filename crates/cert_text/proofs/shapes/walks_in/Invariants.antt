@@ -1,0 +1,9 @@
+use Rattle.std.proofs.Common.{◌≡◌, map, take, Some}
+use Rattle.serde_json.specs.View.{view}
+use Rattle.cert_text.specs.Certificates.{walks_of}
+use Rattle.cert_text.specs.Shapes.{all_read, walk_in}
+use Rattle.cert_text.proofs.shapes.walks_in.Given as goal
+
+abbrev pub invariant-loop-entry : goal.invariant-loop-entry
+invariant-loop-entry l =
+    all_read walk_in (map view (take l.entry-index l.list)) ≡ Some (walks_of l.walks.items)
