@@ -1,30 +1,23 @@
 -- Where the search in the powers found no inner one, there is none before a map passes the cap.
 use Rattle.std.proofs.Common.{◌≡◌, ◌<◌, ◌≤◌, ◌⊎◌, inl, inr, ◌+◌, ◌-◌, ◌++◌, ℕ, zero, suc, ℤ, List, [], length, take}
-use Rattle.std.proofs.Common.{refl, sym, ◌∙◌, ap, subst, arith, slice_index_or, append_assoc}
+use Rattle.std.proofs.Common.{sym, ◌∙◌, ap, subst, arith, slice_index_or}
 use Rattle.std.proofs.Math.Numerals.{add-one}
 use Rattle.std.proofs.lemmas.Bool.{cases_lt}
 use Rattle.std.proofs.lemmas.List.{length-append, take-append-le}
 use Rattle.std.specs.List.{repeat}
 use Rattle.ideal_tri.specs.Triangulations.{IsTriangulation}
+use Rattle.tri_atlas.specs.MapLaws.{RepeatLaws}
 use Rattle.tri_atlas.specs.Maps.{letters_of, path_map}
 use Rattle.tri_atlas.specs.Moves.{Move}
 use Rattle.free_groupoid.specs.InnerLaws.{InnerLaws, IsReducedLoop}
 use Rattle.free_groupoid.specs.Periodic.{IsFirstPast, IsFirstTest, IsInnerPath, IsWithin}
 use Rattle.free_groupoid.specs.PeriodicLaws.{PeriodicLaws}
-use Rattle.cert_text.specs.Holds.{letter_cap}
+use Rattle.cert_text.specs.Limits.{letter_cap}
 use Rattle.periodic_cert.specs.PowerAnswers.{AreAllRefuted, AreReasons, IsCapped}
 use Rattle.verdict_plan.specs.Verdicts.{HasNoOrder}
 
--- so many more times
-repeat_on : {A : Type 0} (n m k : ℕ) (xs : List A) → k ≡ n + m → repeat k xs ≡ repeat n xs ++ repeat m xs
-repeat_on {A} zero m k xs e = ap (λ (i : ℕ). repeat i xs) (let same : k ≡ m = omega (arith, e) in same)
-repeat_on {A} (suc n) m k xs e =
-    let more : k ≡ suc (n + m) = omega (arith, e) in
-    ap (λ (i : ℕ). repeat i xs) more ∙ ap (λ (ys : List A). xs ++ ys) (repeat_on n m (n + m) xs refl)
-    ∙ sym (append_assoc xs (repeat n xs) (repeat m xs))
-
 module _ (triples : List (List ℤ)) (moves : List Move) (sound : IsTriangulation triples) (tests : InnerLaws)
-    (laws : PeriodicLaws) where
+    (laws : PeriodicLaws) (repeats : RepeatLaws Move) where
   -- a power that moves a test walk isn't inner
   not_inner : (k : ℕ) (w : List ℤ) → IsFirstTest triples (path_map (repeat k moves)) w
       → ¬ IsInnerPath triples (repeat k moves)
@@ -46,16 +39,21 @@ module _ (triples : List (List ℤ)) (moves : List Move) (sound : IsTriangulatio
   all_refuted limit reasons h k some within small =
       refuted reasons k h.refuted some (let each = h.one_reason_each in omega arith)
 
+  -- so many more times
+  repeat_on : (n m : ℕ) → n ≤ m → repeat m moves ≡ repeat n moves ++ repeat (m - n) moves
+  repeat_on n m more =
+      ap (λ (i : ℕ). repeat i moves) (let on : m ≡ n + (m - n) = omega arith in on) ∙ repeats.join n (m - n) moves
+
   -- so many times more begin as fewer times do
   repeat_begins : (n m i : ℕ) → n ≤ m → i ≤ length (repeat n moves)
       → take i (repeat m moves) ≡ take i (repeat n moves)
   repeat_begins n m i more within =
-      ap (take i) (repeat_on n (m - n) m moves (omega arith)) ∙ take-append-le i (repeat n moves) (repeat (m - n) moves) within
+      ap (take i) (repeat_on n m more) ∙ take-append-le i (repeat n moves) (repeat (m - n) moves) within
 
   longer_repeat : (n m : ℕ) → n ≤ m → length (repeat n moves) ≤ length (repeat m moves)
   longer_repeat n m more =
       let long : length (repeat m moves) ≡ length (repeat n moves) + length (repeat (m - n) moves) =
-      ap length (repeat_on n (m - n) m moves (omega arith))
+      ap length (repeat_on n m more)
       ∙ length-append (repeat n moves) (repeat (m - n) moves) in omega (arith, long)
 
   -- a power behind the first that passes the cap passes it too

@@ -1,5 +1,5 @@
 -- What the phases found is a verdict, and its certificate holds and means what it says.
-use Rattle.std.proofs.Common.{◌≡◌, ◌≤◌, ◌∙◌, sym, subst, ℕ, ℤ, List, [], Option, Some, None, MatchOption, arith}
+use Rattle.std.proofs.Common.{◌≡◌, ◌≤◌, ◌∙◌, sym, subst, ℕ, ℤ, List, [], Option, Some, None, MatchOption, arith, refl}
 use Rattle.std.proofs.Common.{ap}
 use Rattle.std.proofs.lemmas.List.{append-nil}
 use Rattle.edge_coords.specs.Coordinates.{Coordinates}
@@ -16,8 +16,15 @@ use Rattle.multicurve_cert.specs.CurveAnswers.{AreAllFailing, IsFirstPassing, Is
 use Rattle.multicurve_cert.specs.PowerLaws.{PowerLaws}
 use Rattle.multicurve_cert.specs.declared.curve_search.Curves.TheVariants.{Found}
 use Rattle.cert_text.specs.CertificateLaws.{CertificateLaws, IsFixedVector}
+use Rattle.cert_text.specs.declared.carried_track.Pa.{Pa}
+use Rattle.cert_text.specs.declared.certificate.Certificate.TheVariants.{PseudoAnosov}
+use Rattle.cert_text.specs.declared.lines.TrackLine.{TrackLine}
+use Rattle.cert_text.specs.PseudoAnosov.{IsPseudoAnosovCertificate}
+use Rattle.verdict_plan.specs.TrackAnswers.{AreNoTracks, IsFirstTrack}
+use Rattle.cert_text.specs.Certificates.{pseudo_anosov, track_seen}
 use Rattle.cert_text.specs.Certificates.{Certificate, periodic, reducible, unknown, seen}
-use Rattle.cert_text.specs.Holds.{HoldsFor, IsPeriodicCertificate, letter_cap, order_limit}
+use Rattle.cert_text.specs.Holds.{HoldsFor, IsPeriodicCertificate}
+use Rattle.cert_text.specs.Limits.{letter_cap, order_limit}
 use Rattle.cert_text.specs.declared.certificate.Certificate.{Certificate as Declared}
 use Rattle.verdict_plan.specs.Verdicts.{HasNoOrder, IsVerdict}
 use Rattle.verdict_plan.specs.declared.budget.Budget.{Budget}
@@ -91,11 +98,21 @@ module _ (triples : List (List ℤ)) (moves : List Move) (budget : Budget) (tri 
       (found_vector arena base powers number coords first found))
 
   pub unknown_sound : HasNoOrder triples moves budget.powers → (c : Declared) (reasons : List (List ℤ))
-      (past : Option (ℕ × ℕ)) (curves : List CurveLine) → seen c ≡ unknown reasons past curves []
+      (past : Option (ℕ × ℕ)) (curves : List CurveLine) (tracks : List TrackLine)
+      → seen c ≡ unknown reasons past curves tracks
       → MatchOption past (AreAllRefuted triples moves budget.powers letter_cap reasons)
       (λ p. IsCapped triples moves budget.powers letter_cap p.0 p.1 reasons)
-      → AreAllFailing triples moves budget.curves curves → IsSound triples moves budget c
-  unknown_sound none c reasons None curves is log lines =
-      sound_as c (unknown reasons None curves []) is (log, lines) tt
-  unknown_sound none c reasons (Some p) curves is log lines =
-      sound_as c (unknown reasons (Some p) curves []) is (log, lines) tt
+      → AreAllFailing triples moves budget.curves curves → AreNoTracks triples moves budget.tracks tracks
+      → IsSound triples moves budget c
+  unknown_sound none c reasons None curves tracks is log lines others =
+      sound_as c (unknown reasons None curves tracks) is (log, lines, others) tt
+  unknown_sound none c reasons (Some p) curves tracks is log lines others =
+      sound_as c (unknown reasons (Some p) curves tracks) is (log, lines, others) tt
+
+  pub track_sound : HasNoOrder triples moves budget.powers → (log : List CurveLine)
+      → AreAllFailing triples moves budget.curves log → (number : ℕ) (pa : Pa)
+      → IsFirstTrack triples moves budget.tracks number (track_seen pa)
+      → IsPseudoAnosovCertificate triples moves (track_seen pa)
+      → IsSound triples moves budget (PseudoAnosov pa)
+  track_sound none log lines number pa first holds =
+      sound_as (PseudoAnosov pa) (pseudo_anosov (track_seen pa)) refl (none, (log, lines), (number, first)) holds

@@ -1,3 +1,6 @@
 pub mod Budgets
+pub mod Stages
+pub mod TrackTests
+pub mod TrackAnswers
 pub mod Verdicts
 pub mod inside

@@ -7,6 +7,6 @@ pub struct Budget {
     pub powers: u32,
     /// How many candidates for a fixed multicurve, at most 65,536.
     pub curves: u32,
-    /// How many candidates for a carried train track. There is no search for these yet: 0.
+    /// How many candidates for a carried train track, at most 4,096.
     pub tracks: u32,
 }

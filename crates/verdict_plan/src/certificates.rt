@@ -1,9 +1,9 @@
 //! Certificates of what the searches found.
-ghost use Rattle.std.specs.Prelude.{◌≡◌, Some, None, [], IfOk};
+ghost use Rattle.std.specs.Prelude.{◌≡◌, Some, None, IfOk};
 ghost use Rattle.periodic_cert.specs.PowerAnswers.{letters_of_walks};
 ghost use Rattle.cert_text.specs.Certificates.{periodic, reducible, seen, unknown, walks_of};
 
-use cert_text::Certificate;
+use cert_text::{Certificate, TrackLine};
 use edge_coords::{Coords, CurveLine};
 use free_groupoid::Walk;
 use ideal_tri::{Label, Memory};
@@ -41,15 +41,16 @@ pub(crate) fn unknown(
     reasons: &[Walk],
     capped: Option<(u32, u64)>,
     curves: Vec<CurveLine>,
+    tracks: Vec<TrackLine>,
 ) -> Result<Certificate, Memory>
     ensures { IfOk result (λ c. seen c
-        ≡ unknown (letters_of_walks reasons.now) capped curves.items []) }
+        ≡ unknown (letters_of_walks reasons.now) capped curves.items tracks.items) }
 {
     Ok(Certificate::Unknown {
         powers: letters_of(alloc, reasons)?,
         capped,
         curves,
-        tracks: Vec::new(alloc),
+        tracks,
     })
 }
 
@@ -65,7 +66,7 @@ fn letters_of(alloc: Global, walks: &[Walk]) -> Result<Vec<Vec<i32>>, Memory>
 }
 
 /// The numbers of labels.
-fn numbers_of(alloc: Global, letters: &[Label]) -> Result<Vec<i32>, Memory>
+pub(crate) fn numbers_of(alloc: Global, letters: &[Label]) -> Result<Vec<i32>, Memory>
     ensures { IfOk result (λ v. v.items ≡ letters.now) }
 {
     let mut numbers = Vec::new(alloc);

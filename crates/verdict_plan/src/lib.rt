@@ -9,16 +9,33 @@
 //! that rules out all powers within the budget, their maps are made only for the log of a word without
 //! a verdict.
 //!
-//! The definitions stand in `specs/`: `Budgets` (the limits) and `Verdicts`.
+//! `search_tracks` tries the candidates for a train track that a power of the word carries.
+//!
+//! The definitions stand in `specs/`: `Budgets` (the limits), `Verdicts`, `Stages` (where the search
+//! for train tracks looks), `TrackTests` (the tests of one candidate) and `TrackAnswers`.
 #![tactic(auto)]
 
 mod budget;
 mod certificates;
 mod plan;
 mod power_phase;
+mod sites;
+mod stages;
+mod track_certificate;
+mod track_growth;
+mod track_search;
+mod track_tests;
+mod ways;
 
 pub use budget::Budget;
 pub use plan::classify;
+pub use track_search::{Tracks, search_tracks};
 
+#[cfg(test)]
+mod candidate_tests;
+#[cfg(test)]
+mod search_tests;
+#[cfg(test)]
+mod stage_tests;
 #[cfg(test)]
 mod tests;

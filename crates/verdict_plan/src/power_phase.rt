@@ -5,6 +5,8 @@
 ghost use Rattle.std.specs.Prelude.{◌≡◌, ◌≢◌, ◌<◌, ◌≤◌, ℕ, false, IfOk, IfSome, IfNone, IsTrue, All};
 ghost use Rattle.std.specs.List.{repeat};
 ghost use Rattle.tri_atlas.specs.Arena.{triangulation};
+ghost use Rattle.tri_atlas.specs.MapLaws.{RepeatLaws};
+ghost use Rattle.tri_atlas.specs.Moves.{Move};
 ghost use Rattle.tri_atlas.specs.Paths.{moves_of};
 ghost use Rattle.edge_coords.specs.Coordinates.{AreCoordinatesIn};
 ghost use Rattle.surface_lib.specs.Surfaces.{IsLoop};
@@ -24,7 +26,7 @@ use ideal_tri::{Memory, drawing_laws};
 use multicurve_cert::{cycle_coords, cycles, power_laws};
 use periodic_cert::{PowerAnswer, powers};
 use std::alloc::Global;
-use tri_atlas::{Atlas, Path, vector_laws};
+use tri_atlas::{Atlas, Path, map_laws, vector_laws};
 
 /// The most letters of a map after a move.
 const LETTER_CAP: u64 = 262_144;
@@ -68,6 +70,13 @@ pub(crate) fn try_powers(
     Ok(Some(follow_powers(alloc, atlas, word, budget)?))
 }
 
+/// What is proved of moves taken several times.
+fn repeat_laws()
+    ensures { RepeatLaws Move }
+{
+    map_laws();
+}
+
 /// What the powers of a path give, by their maps.
 pub(crate) fn follow_powers(
     alloc: Global,
@@ -81,6 +90,7 @@ pub(crate) fn follow_powers(
         (IsOfPowers (triangulation atlas.now 0) (moves_of atlas.now word.now) budget.now) }
 {
     let _ = atlas.base();
+    repeat_laws();
     inner_laws();
     periodic_laws();
     certificate_laws();

@@ -5,7 +5,8 @@ use Rattle.tri_atlas.specs.Moves.{Move}
 use Rattle.free_groupoid.specs.Periodic.{IsInnerPath}
 use Rattle.cert_text.specs.CertificateLaws.{IsMeant}
 use Rattle.cert_text.specs.Certificates.{seen}
-use Rattle.cert_text.specs.Holds.{HoldsFor, letter_cap}
+use Rattle.cert_text.specs.Holds.{HoldsFor}
+use Rattle.cert_text.specs.Limits.{letter_cap}
 use Rattle.cert_text.specs.declared.certificate.Certificate.{Certificate}
 use Rattle.periodic_cert.specs.PowerAnswers.{AreAllRefuted, IsCapped, letters_of_walks}
 use Rattle.verdict_plan.specs.Verdicts.{HasNoOrder, IsVerdict}

@@ -4,8 +4,8 @@ use Rattle.tri_atlas.specs.Paths.{moves_of}
 use Rattle.verdict_plan.proofs.Sound.{reducible_sound}
 use Rattle.verdict_plan.proofs.plan.try_curves.Goals as goal
 
-pub returns-in_ok-reducible-in-Found : goal.returns-in_ok-reducible-in-Found
-returns-in_ok-reducible-in-Found c =
+pub returns-in_ok-reducible-in-Found-clause-sound : goal.returns-in_ok-reducible-in-Found-clause-sound
+returns-in_ok-reducible-in-Found-clause-sound c =
     let answer = rw c.in-Found.is at c.in_ok-coords.ensures.answer in
     let found = rw c.in-Found.is at c.in_ok-coords.ensures.found in
     reducible_sound (triangulation c.args.atlas.now 0) (moves_of c.args.atlas.now c.args.word.now) c.args.budget.now

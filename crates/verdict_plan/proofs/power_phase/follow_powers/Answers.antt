@@ -9,7 +9,7 @@ returns-in-Capped c =
       found.0,
       capped (triangulation c.args.atlas.now 0) (moves_of c.args.atlas.now c.args.word.now)
           (c.base.ensures.sound.sound 0 c.base.ensures.sound.base) c.inner_laws.ensures.test c.periodic_laws.ensures.powers
-          c.args.budget.now.powers c.in-Capped.power c.in-Capped.letters _ found.0,
+          c.repeat_laws.ensures c.args.budget.now.powers c.in-Capped.power c.in-Capped.letters _ found.0,
     )
 
 pub returns-in-AllRefuted : goal.returns-in-AllRefuted
@@ -18,5 +18,5 @@ returns-in-AllRefuted c =
       found.0,
       all_refuted (triangulation c.args.atlas.now 0) (moves_of c.args.atlas.now c.args.word.now)
           (c.base.ensures.sound.sound 0 c.base.ensures.sound.base) c.inner_laws.ensures.test c.periodic_laws.ensures.powers
-          c.args.budget.now.powers _ found.0,
+          c.repeat_laws.ensures c.args.budget.now.powers _ found.0,
     )

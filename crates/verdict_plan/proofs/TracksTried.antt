@@ -1,0 +1,190 @@
+-- The candidates for a carried track, tried in order.
+--
+-- What holds of a candidate in the grown atlas holds of it by the word's moves over the base as they were, since both
+-- are the same. A candidate whose site passes with some certificate has the power and the flips of that certificate;
+-- there are at most 32 depths, so it has at most 31 flips, and a power from 1 to 4.
+use Rattle.std.proofs.Common.{◌≡◌, ◌<◌, ◌≤◌, ◌+◌, ◌*◌, ◌/◌, ◌%◌, ◌++◌, ℕ, ℤ, List, [], ◌∷◌, length}
+use Rattle.std.proofs.Common.{get_or, inl, inr, refl, sym, ◌∙◌, ap, subst, arith}
+use Rattle.std.proofs.lemmas.Bool.{cases_eq}
+use Rattle.std.proofs.lemmas.List.{length-append, length-map, get_or_append_left}
+use Rattle.std.proofs.Math.Nat.{div-lt_iff_lt-mul}
+use Rattle.std.proofs.Math.Seq.{get_or-append_seam}
+use Rattle.tri_atlas.specs.Arena.{Arena, Grows, IsArena, triangulation}
+use Rattle.tri_atlas.specs.AtlasLaws.{GrowthLaws, HandleLaws}
+use Rattle.tri_atlas.specs.Moves.{Move}
+use Rattle.tri_atlas.specs.Paths.{MovePath, moves_of}
+use Rattle.tri_atlas.specs.FlipPaths.{CanBeFlipped, flipped_along}
+use Rattle.free_groupoid.specs.Walks.{DualWalk}
+use Rattle.surface_lib.specs.Surfaces.{IsLoop}
+use Rattle.train_track.specs.Branches.{words_of}
+use Rattle.multicurve_cert.specs.Cycles.{AreCycles}
+use Rattle.cert_text.specs.Certificates.{CarriedTrack}
+use Rattle.cert_text.specs.Limits.{flip_limit, power_limit}
+use Rattle.cert_text.specs.PseudoAnosov.{IsPseudoAnosovCertificate, conjugated, track_path, track_triangles}
+use Rattle.cert_text.specs.declared.lines.TrackLine.{TrackLine}
+use Rattle.cert_text.specs.declared.lines.TrackLine.TheVariants.{NoBounds}
+use Rattle.verdict_plan.specs.Stages.{AreGreatestFlips, made, ended, flip}
+use Rattle.verdict_plan.specs.TrackAnswers.{IsFirstTrack, AreNoTracks, IsLineAt, IsStageAt, PassesAt}
+use Rattle.verdict_plan.specs.TrackAnswers.{depth_of, power_of, track_count, track_kinds}
+use Rattle.verdict_plan.specs.inside.Sites.{IsLineWith, IsSiteOf, corners_at}
+use Rattle.verdict_plan.specs.inside.Staged.{there}
+use Rattle.verdict_plan.specs.inside.Trials.{IsSoundPass, PassLaw}
+use Rattle.verdict_plan.specs.inside.Turns.{AreLines, IsPassAt}
+use Rattle.verdict_plan.specs.declared.sites.Site.{Site}
+use Rattle.verdict_plan.proofs.Grown.{here_before}
+
+-- as many flips as the depth, or fewer
+few_flips : (triples after : List (List ℤ)) (w v edges : List ℕ) (depth : ℕ)
+    → AreGreatestFlips triples w depth edges after v → length edges ≤ depth
+few_flips _ _ _ _ _ _ (made triples w) = omega arith
+few_flips _ _ _ _ _ _ (ended triples w depth over) = omega arith
+few_flips _ _ _ _ _ _ (flip triples after w v edges e depth best small rest) =
+    let fewer : length edges ≤ depth = few_flips _ _ _ _ _ _ rest in omega arith
+
+-- ---- one candidate
+
+module _ (arena : Arena) (word : MovePath) (cycles : List (List ℤ)) (n : ℕ) (site : Site)
+    (at : IsSiteOf arena word cycles n site) where
+  abbrev triples : List (List ℤ)
+  triples = triangulation arena 0
+
+  abbrev moves : List Move
+  moves = moves_of arena word
+
+  pub line_at : (line : TrackLine) → IsLineWith arena word site.stage (power_of cycles n) line
+      → IsLineAt triples moves cycles n line
+  line_at line fails = record {
+    edges = site.stage.edges.items;
+    there = there arena site.stage;
+    vector = site.stage.coords.numbers;
+    stage = at.stage;
+    fails = fails;
+  }
+
+  module _ (c : CarriedTrack) (pass : IsPassAt arena word site.stage (power_of cycles n) c) where
+    sound : IsSoundPass (there arena site.stage) (conjugated triples moves c.flips c.power)
+        (corners_at arena site.stage) c
+    sound =
+        subst (λ (p : ℕ). IsSoundPass (there arena site.stage) (conjugated triples moves c.flips p)
+        (corners_at arena site.stage) c) (sym pass.has_power)
+        (subst (λ (es : List ℕ). IsSoundPass (there arena site.stage) (conjugated triples moves es (power_of cycles n))
+        (corners_at arena site.stage) c) (sym pass.has_flips) pass.sound)
+
+    pub passes_at : PassesAt triples moves cycles n c
+    passes_at = record {
+      there = there arena site.stage;
+      vector = site.stage.coords.numbers;
+      stage = subst (λ (es : List ℕ). IsStageAt triples moves cycles n es (there arena site.stage)
+          site.stage.coords.numbers) (sym pass.has_flips) at.stage;
+      power = pass.has_power;
+      passing = sound.passing;
+    }
+
+    few : 0 < length cycles → n < track_kinds * length cycles → length c.flips ≤ flip_limit
+    few some below =
+        let round : n / length cycles < 128 = (div-lt_iff_lt-mul {k = length cycles} {x = n} {y = 128} some).1 below in
+        let flips : length site.stage.edges.items ≤ depth_of cycles n =
+        few_flips _ _ _ _ _ _ at.stage.flips in
+        let same : length c.flips ≡ length site.stage.edges.items =
+        ap (λ (es : List ℕ). length es) pass.has_flips in
+        omega (arith, round, flips, same)
+
+    pub holds_at : PassLaw → 0 < length cycles → n < track_kinds * length cycles
+        → IsPseudoAnosovCertificate triples moves c
+    holds_at law some below =
+        let power : c.power ≡ 1 + (n / length cycles) % 4 = pass.has_power in
+        let positive : 0 < c.power = omega (arith, power) in
+        let within : c.power ≤ power_limit = omega (arith, power) in
+        let flippable : CanBeFlipped triples c.flips =
+        subst (CanBeFlipped triples) (sym pass.has_flips) at.kept.flippable in
+        let leads : there arena site.stage ≡ track_triangles triples c =
+        at.kept.leads ∙ ap (flipped_along triples) (sym pass.has_flips) in
+        law triples moves (corners_at arena site.stage) c positive within (few some below) flippable
+        (subst (λ (ts : List (List ℤ)). IsSoundPass ts (track_path triples moves c) (corners_at arena site.stage) c)
+        leads sound)
+
+-- ---- all candidates
+
+module _ (triples : List (List ℤ)) (moves : List Move) (cycles : List (List ℤ)) where
+  pub no_lines : (log : List TrackLine) → log ≡ [] → AreLines triples moves cycles 0 log
+  no_lines log none = subst (AreLines triples moves cycles 0) (sym none) (record {
+    one_line_each = refl;
+    lines = λ k line inside. absurd (omega (arith, inside));
+  })
+
+  module _ (n : ℕ) (log : List TrackLine) (h : AreLines triples moves cycles n log) where
+    -- one more line
+    pub lines_more : (line : TrackLine) (more : List TrackLine) → IsLineAt triples moves cycles n line
+        → more ≡ log ++ line ∷ [] → AreLines triples moves cycles (n + 1) more
+    lines_more line more new pushed = subst (AreLines triples moves cycles (n + 1)) (sym pushed) (record {
+      one_line_each = omega (arith, length-append log (line ∷ []), h.one_line_each);
+      lines = λ k other inside. elim (cases_eq k (length log)) [
+        | inl e ↦
+            let here : k ≡ n = e ∙ h.one_line_each in
+            subst (λ (i : ℕ). IsLineAt triples moves cycles i (get_or (log ++ line ∷ []) k other)) (sym here)
+            (subst (IsLineAt triples moves cycles n)
+            (sym (ap (λ (i : ℕ). get_or (log ++ line ∷ []) i other) e ∙ get_or-append_seam log line [] other)) new)
+        | inr apart ↦
+            let low : k < length log = omega (arith, length-append log (line ∷ []), apart) in
+            subst (IsLineAt triples moves cycles k) (sym (get_or_append_left log (line ∷ []) other k low))
+            (h.lines k other low)
+      ];
+    })
+
+    module _ (are : AreCycles triples cycles) (budget : ℕ) where
+      -- the first that passes
+      pub first_track : (c : CarriedTrack) → n < track_count cycles budget → PassesAt triples moves cycles n c
+          → IsFirstTrack triples moves budget n c
+      first_track c within passes = record {
+        cycles = cycles;
+        are_cycles = are;
+        within = within;
+        passes = passes;
+        before = λ k low. (
+          get_or log k NoBounds,
+          h.lines k NoBounds (omega (arith, h.one_line_each, low)),
+        );
+      }
+
+      -- or none
+      pub no_tracks : n ≡ track_count cycles budget → AreNoTracks triples moves budget log
+      no_tracks full = record {
+        cycles = cycles;
+        are_cycles = are;
+        one_line_each = h.one_line_each ∙ full;
+        lines = h.lines;
+      }
+
+-- ---- the turn of a candidate, in the grown atlas
+
+module _ (old new : Arena) (growth : GrowthLaws) (grows : Grows old new) (handles : HandleLaws)
+    (sound_old : IsArena old) (word : MovePath) (loop : IsLoop old word) (walks : List DualWalk) (n : ℕ) (site : Site)
+    (at : IsSiteOf new word (words_of walks) n site) where
+  abbrev words : List (List ℤ)
+  words = words_of walks
+
+  many : length words ≡ length walks
+  many = length-map walks (λ (v : DualWalk). v.letters)
+
+  pub line_tried : (line : TrackLine) → IsLineWith new word site.stage (1 + (n / length walks) % 4) line
+      → IsLineAt (triangulation old 0) (moves_of old word) words n line
+  line_tried line h =
+      here_before old new growth grows handles sound_old word loop (λ ts ms. IsLineAt ts ms words n line)
+      (line_at new word words n site at line
+      (subst (λ (m : ℕ). IsLineWith new word site.stage (1 + (n / m) % 4) line) (sym many) h))
+
+  module _ (c : CarriedTrack) (pass : IsPassAt new word site.stage (1 + (n / length walks) % 4) c) where
+    pass_there : IsPassAt new word site.stage (power_of words n) c
+    pass_there = subst (λ (m : ℕ). IsPassAt new word site.stage (1 + (n / m) % 4) c) (sym many) pass
+
+    pub passes_tried : PassesAt (triangulation old 0) (moves_of old word) words n c
+    passes_tried =
+        here_before old new growth grows handles sound_old word loop (λ ts ms. PassesAt ts ms words n c)
+        (passes_at new word words n site at c pass_there)
+
+    pub holds_tried : PassLaw → 0 < length walks → n < track_kinds * length walks
+        → IsPseudoAnosovCertificate (triangulation old 0) (moves_of old word) c
+    holds_tried law some below =
+        here_before old new growth grows handles sound_old word loop (λ ts ms. IsPseudoAnosovCertificate ts ms c)
+        (holds_at new word words n site at c pass_there law (subst (λ (m : ℕ). 0 < m) (sym many) some)
+        (subst (λ (m : ℕ). n < track_kinds * m) (sym many) below))

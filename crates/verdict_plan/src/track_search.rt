@@ -1,0 +1,216 @@
+//! The candidates for a carried train track, tried in order.
+//!
+//! One candidate after another of a cycle is the next power of the word at the same stage, or the
+//! first at the next stage. The cycles take turns, so the sites of the last candidates wait in a
+//! queue, one for each cycle.
+ghost use Rattle.std.specs.Prelude.{◌≡◌, ◌<◌, ◌*◌, ◌+◌, ◌%◌, ◌/◌, length, min, IfOk, OnOk};
+ghost use Rattle.tri_atlas.specs.Arena.{Grows, triangulation};
+ghost use Rattle.tri_atlas.specs.Paths.{moves_of};
+ghost use Rattle.train_track.specs.Branches.{words_of};
+ghost use Rattle.multicurve_cert.specs.Cycles.{AreCycles};
+ghost use Rattle.surface_lib.specs.Surfaces.{IsLoop};
+ghost use Rattle.verdict_plan.specs.TrackAnswers.{HoldsWhereFound, IsTracksAnswer, track_kinds};
+ghost use Rattle.verdict_plan.specs.inside.Sites.{AreSites, IsSiteOf, IsStanding};
+ghost use Rattle.verdict_plan.specs.inside.Staged.{IsKept};
+ghost use Rattle.verdict_plan.specs.inside.Turns.{AreOtherSites, IsFollowing, IsOutcomeAt};
+ghost use Rattle.verdict_plan.specs.inside.Turns.{IsSomeSite};
+ghost use Rattle.verdict_plan.specs.inside.Sites.{IsBackWay, IsTrackAt};
+
+use crate::sites::{Site, Standing, first_site, next_depth, next_power};
+use crate::stages::Stage;
+use crate::track_tests::{pass_law, try_map};
+use crate::ways::{Way, copied, go_on};
+use cert_text::{Pa, TrackLine};
+use free_groupoid::{Walk, periodic_laws};
+use ideal_tri::Memory;
+use multicurve_cert::{cycle_coords, cycles};
+use std::alloc::Global;
+use std::collections::VecDeque;
+use train_track::Track;
+use tri_atlas::{Atlas, Path, atlas_laws};
+
+/// How many candidates there are for each cycle: 32 depths with 4 powers each.
+const KINDS: usize = 128;
+
+/// The powers at each depth.
+const POWERS: usize = 4;
+
+/// What the candidates show.
+#[derive(Drop)]
+pub enum Tracks {
+    /// A candidate passes all tests.
+    Found {
+        /// The first that does, counted from 0.
+        number: u32,
+        /// Its certificate.
+        pa: Pa,
+    },
+    /// None does within the budget.
+    None {
+        /// For each candidate the first test that it fails.
+        log: Vec<TrackLine>,
+    },
+}
+
+/// Tries the candidates for a train track that a power of the word carries into itself, in order,
+/// those with numbers below the budget: the first that passes all tests, or for each the first test
+/// that it fails (Penner and Harer). The word runs from the base to the base. The triangulations at
+/// the stages are added to the atlas.
+pub fn search_tracks(
+    alloc: Global,
+    atlas: &mut Atlas,
+    word: &Path,
+    budget: u32,
+) -> Result<Tracks, Memory>
+    requires closed { IsLoop atlas.old word.now }
+    ensures answer { IfOk result (IsTracksAnswer (triangulation atlas.old 0)
+        (moves_of atlas.old word.now) budget) }
+    ensures holds { IfOk result (HoldsWhereFound (triangulation atlas.old 0)
+        (moves_of atlas.old word.now)) }
+    ensures grows { Grows atlas.old atlas.new }
+{
+    atlas_laws();
+    let cycles = cycles(alloc, atlas.tri(atlas.base()))?;
+    search_along(alloc, atlas, word, &cycles, budget)
+}
+
+/// Tries the candidates that are made of these cycles, all that there are.
+fn search_along(
+    alloc: Global,
+    atlas: &mut Atlas,
+    word: &Path,
+    cycles: &[Walk],
+    budget: u32,
+) -> Result<Tracks, Memory>
+    requires closed { IsLoop atlas.old word.now }
+    requires cycles { AreCycles (triangulation atlas.old 0) (words_of cycles.now) }
+    requires some { 0 < length cycles.now }
+    ensures answer { IfOk result (IsTracksAnswer (triangulation atlas.old 0)
+        (moves_of atlas.old word.now) budget) }
+    ensures holds { IfOk result (HoldsWhereFound (triangulation atlas.old 0)
+        (moves_of atlas.old word.now)) }
+    ensures grows { Grows atlas.old atlas.new }
+{
+    let _ = atlas.base();
+    atlas_laws();
+    pass_law();
+    let count = track_count(cycles.len(), budget);
+    let mut sites = VecDeque::new(alloc);
+    let mut log = Vec::new(alloc);
+    // n candidates fail
+    for n in 0..count {
+        let site = next_site(alloc, atlas, word, cycles, n as usize, &mut sites)?;
+        let power = 1 + (n as usize / cycles.len()) % POWERS;
+        match try_site(alloc, atlas, word, &site, power as u32)? {
+            Ok(pa) => return Ok(Tracks::Found { number: n, pa }),
+            Err(line) => log.push(line)?,
+        }
+        sites.push_back(site)?;
+    }
+    Ok(Tracks::None { log })
+}
+
+/// The site of candidate n; the sites of the other cycles stay in the queue.
+fn next_site(
+    alloc: Global,
+    atlas: &mut Atlas,
+    word: &Path,
+    cycles: &[Walk],
+    n: usize,
+    sites: &mut VecDeque<Site>,
+) -> Result<Site, Memory>
+    requires closed { IsLoop atlas.old word.now }
+    requires cycles { AreCycles (triangulation atlas.old 0) (words_of cycles.now) }
+    requires some { 0 < length cycles.now }
+    requires sites { AreSites atlas.old word.now (words_of cycles.now) n sites.old.items }
+    ensures site { IfOk result (IsSiteOf atlas.new word.now (words_of cycles.now) n) }
+    ensures sites { OnOk result (AreOtherSites atlas.new word.now (words_of cycles.now) n
+        sites.new.items) }
+    ensures grows { Grows atlas.old atlas.new }
+{
+    let _ = atlas.base();
+    atlas_laws();
+    if sites.len() < cycles.len() {
+        let w = cycle_coords(atlas, &cycles[n]);
+        return first_site(alloc, atlas, word, &w);
+    }
+    let Some(site) = sites.pop_front() else {
+        unreachable!()
+    };
+    following(alloc, atlas, word, site, n / cycles.len())
+}
+
+/// The site of the candidate of the same cycle in this round, from that of the round before.
+fn following(
+    alloc: Global,
+    atlas: &mut Atlas,
+    word: &Path,
+    site: Site,
+    round: usize,
+) -> Result<Site, Memory>
+    requires closed { IsLoop atlas.old word.now }
+    requires site { IsSomeSite atlas.old word.now site }
+    ensures next { IfOk result (IsFollowing atlas.old atlas.new word.now round site) }
+    ensures grows { Grows atlas.old atlas.new }
+{
+    atlas_laws();
+    if round % POWERS == 0 {
+        next_depth(alloc, atlas, word, site)
+    } else {
+        next_power(atlas, word, site)
+    }
+}
+
+/// What the tests give for the candidate with this power at its site.
+fn try_site(
+    alloc: Global,
+    atlas: &Atlas,
+    word: &Path,
+    site: &Site,
+    power: u32,
+) -> Result<Result<Pa, TrackLine>, Memory>
+    requires closed { IsLoop atlas.now word.now }
+    requires kept { IsKept atlas.now site.now.stage }
+    requires standing { IsStanding atlas.now word.now site.now.stage power site.now.standing }
+    ensures { IfOk result (IsOutcomeAt atlas.now word.now site.now.stage power) }
+{
+    match &site.standing {
+        Standing::Failed(line) => Ok(Err(*line)),
+        Standing::Open { track, way } => {
+            try_open(alloc, atlas, word, &site.stage, track, way, power)
+        }
+    }
+}
+
+/// The same where no test fails that the candidates of the stage share.
+fn try_open(
+    alloc: Global,
+    atlas: &Atlas,
+    word: &Path,
+    stage: &Stage,
+    track: &Track,
+    way: &Way,
+    power: u32,
+) -> Result<Result<Pa, TrackLine>, Memory>
+    requires closed { IsLoop atlas.now word.now }
+    requires kept { IsKept atlas.now stage.now }
+    requires track { IsTrackAt atlas.now stage.now track.now }
+    requires way { IsBackWay atlas.now word.now stage.now power way.now }
+    ensures { IfOk result (IsOutcomeAt atlas.now word.now stage.now power) }
+{
+    let _ = atlas.base();
+    atlas_laws();
+    periodic_laws();
+    let way = copied(alloc, atlas, way)?;
+    match go_on(atlas, way, &stage.path)? {
+        Ok(way) => try_map(alloc, atlas, track, &way.map, power, &stage.edges),
+        Err(n) => Ok(Err(TrackLine::Cap { n })),
+    }
+}
+
+/// How many candidates of so many cycles there are within the budget.
+fn track_count(cycles: usize, budget: u32) -> u32
+    ensures { result ≡ min budget (track_kinds * cycles) }
+{
+    (budget as usize).min(KINDS.saturating_mul(cycles)) as u32
+}
