@@ -12,6 +12,7 @@ use Rattle.flipper_cli.specs.Commands.{Command, source_in, IsReadBy}
 use Rattle.flipper_cli.specs.Coordinates.{numbers_in}
 use Rattle.flipper_cli.specs.Headline.{IsHeadline, IsPrinted}
 use Rattle.flipper_cli.specs.Report.{IsFound, IsReport, IsSurfaceReport, IsVectorReport, IsNumbersReport, IsWordReport}
+use Rattle.flipper_cli.specs.Report.{IsImageReport}
 use Rattle.flipper_cli.specs.Run.{shown}
 use Rattle.flipper_cli.specs.inside.AboutSurfaces.{IsAboutSurface}
 use Rattle.flipper_cli.specs.inside.CommandAnswers.{IsCommandAnswer}
@@ -21,15 +22,23 @@ use Rattle.flipper_cli.specs.declared.coordinates.NumbersError.{NumbersError}
 use Rattle.flipper_cli.specs.declared.refusal.Refusal.{Refusal}
 use Rattle.flipper_cli.specs.declared.refusal.Refusal.TheVariants.{Absent, Failed, Memory}
 
--- ---- `image`
+-- ---- the coordinates were read, and the word
+
+pub numbers_reported : (d : Described) (IsAnswered : List ℕ → Report → Type 0) (coordinates w : List ℕ) (r : Report)
+    (NoMemory : Type 0) → numbers_in coordinates ≡ Ok w → IsVectorReport d IsAnswered w r ⊎ NoMemory
+    → IsNumbersReport d IsAnswered (numbers_in coordinates) r ⊎ NoMemory
+numbers_reported d IsAnswered coordinates w r NoMemory are_numbers (inr short) = inr short
+numbers_reported d IsAnswered coordinates w r NoMemory are_numbers (inl h) =
+    inl (subst (λ (x : Result (List ℕ) NumbersError). IsNumbersReport d IsAnswered x r) (sym are_numbers) h)
 
 pub image_reported : (d : Described) (word : Result (List Move) WordError) (moves : List Move) (coordinates w : List ℕ)
     (r : Report) (NoMemory : Type 0) → word ≡ Ok moves → numbers_in coordinates ≡ Ok w
-    → IsVectorReport d moves w r ⊎ NoMemory → IsWordReport d word coordinates r ⊎ NoMemory
-image_reported d word moves coordinates w r NoMemory is_word are_numbers (inr short) = inr short
-image_reported d word moves coordinates w r NoMemory is_word are_numbers (inl h) =
-    inl (subst (λ (x : Result (List Move) WordError). IsWordReport d x coordinates r) (sym is_word)
-    (subst (λ (x : Result (List ℕ) NumbersError). IsNumbersReport d moves x r) (sym are_numbers) h))
+    → IsVectorReport d (IsImageReport d moves) w r ⊎ NoMemory → IsWordReport d word coordinates r ⊎ NoMemory
+image_reported d word moves coordinates w r NoMemory is_word are_numbers answered =
+    elim (numbers_reported d (IsImageReport d moves) coordinates w r NoMemory are_numbers answered) [
+      | inl h ↦ inl (subst (λ (x : Result (List Move) WordError). IsWordReport d x coordinates r) (sym is_word) h)
+      | inr short ↦ inr short
+    ]
 
 -- ---- no surface was found
 

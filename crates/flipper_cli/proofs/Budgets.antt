@@ -6,8 +6,8 @@ use Rattle.std.specs.Str.{bytes_eq}
 use Rattle.std.specs.Str.Parse.{digits_value}
 use Rattle.std.proofs.lemmas.Bool.{and_parts, cases_Bool, leb-true}
 use Rattle.std.proofs.lemmas.Slice.Eq.{bytes_eq-Decides}
-use Rattle.cert_text.specs.Holds.{order_limit}
-use Rattle.verdict_plan.specs.Budgets.{IsWithinLimits, curve_limit}
+use Rattle.cert_text.specs.Limits.{order_limit}
+use Rattle.verdict_plan.specs.Budgets.{IsWithinLimits, curve_limit, track_limit}
 use Rattle.verdict_plan.specs.declared.budget.Budget.{Budget}
 use Rattle.flipper_cli.specs.Options.{Setting, are_fitting, budget_in, budget_of, is_number_up_to}
 use Rattle.flipper_cli.specs.Options.{is_short_number, limit_of, number_of}
@@ -38,7 +38,7 @@ within_limits : (all : List Setting) → are_fitting all ≡ true → IsWithinLi
 within_limits all fits = record {
   powers = number_small (codes "powers") order_limit 48 refl (omega arith) all fits;
   curves = number_small (codes "curves") curve_limit 256 refl (omega arith) all fits;
-  tracks = omega arith;
+  tracks = number_small (codes "tracks") track_limit 256 refl (omega arith) all fits;
 }
 
 -- the budget of words that fit is within the limits

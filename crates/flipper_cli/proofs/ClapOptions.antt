@@ -38,17 +38,20 @@ this_or_later P option name limit later this rest known =
 record HoldsOfEach (P : Text → Type 0) : Type 0 where
   powers : P (codes "powers")
   curves : P (codes "curves")
+  tracks : P (codes "tracks")
 
 each_name : (P : Text → Type 0) → HoldsOfEach P → (name : Text) → is_some (limit_of name) ≡ true → P name
 each_name P each name =
     this_or_later P (codes "powers") name _ _ each.powers
     (this_or_later P (codes "curves") name _ _ each.curves
-    (λ none. absurd (cc)))
+    (this_or_later P (codes "tracks") name _ _ each.tracks
+    (λ none. absurd (cc))))
 
 has_options : HasOptions options_shape
 has_options = each_name (IsOption options_shape.rules) (record {
   powers = record { by_long = refl; by_id = refl };
   curves = record { by_long = refl; by_id = refl };
+  tracks = record { by_long = refl; by_id = refl };
 })
 
 -- ---- no option has a default

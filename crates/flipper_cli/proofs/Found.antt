@@ -7,6 +7,7 @@ use Rattle.flip_io.specs.declared.whole.ReadError.{ReadError}
 use Rattle.flip_io.specs.declared.whole.ReadError.TheVariants as read
 use Rattle.surface_lib.specs.Described.{described}
 use Rattle.surface_lib.specs.SurfaceFiles.{IsReadingOf, file_limit}
+use Rattle.twist_compile.specs.TwistPaths.{IsCompiled}
 use Rattle.surface_lib.specs.declared.surface.Surface.{Surface}
 use Rattle.surface_lib.specs.declared.surface_error.SurfaceError.{SurfaceError}
 use Rattle.surface_lib.specs.declared.surface_error.SurfaceError.TheVariants as surface
@@ -57,7 +58,7 @@ no_memory : (bytes : List ℕ) (e : SurfaceError) → e ≡ surface.Memory
 no_memory bytes e is =
     subst (λ (y : SurfaceError). IsFoundUnless (IsFoundIn (Some bytes)) (Err (for_surface y))) (sym is) (inr (inr refl))
 
-refused : (bytes : List ℕ) (e : SurfaceError) → (e ≡ surface.Memory) ⊎ IsReadingOf bytes (Err e)
+refused : (bytes : List ℕ) (e : SurfaceError) → (e ≡ surface.Memory) ⊎ IsReadingOf IsCompiled bytes (Err e)
     → IsFoundUnless (IsFoundIn (Some bytes)) (Err (for_surface e))
 refused bytes e (inl is) = no_memory bytes e is
 refused bytes e (inr reading) = by_name (shown_as e)
@@ -70,7 +71,7 @@ refused bytes e (inr reading) = by_name (shown_as e)
         (inl (Err e, reading, refl))
 
 pub not_surface : (told : Option (List ℕ)) (bytes : List ℕ) (e : SurfaceError) (r : Result Surface Refusal)
-    → told ≡ Some bytes → (e ≡ surface.Memory) ⊎ IsReadingOf bytes (Err e) → IsErrAnd r (λ z. z ≡ for_surface e)
+    → told ≡ Some bytes → (e ≡ surface.Memory) ⊎ IsReadingOf IsCompiled bytes (Err e) → IsErrAnd r (λ z. z ≡ for_surface e)
     → IsFoundUnless (IsFoundIn told) r
 not_surface told bytes e (Ok s) is reading h = absurd h
 not_surface told bytes e (Err z) is reading h =
@@ -78,7 +79,7 @@ not_surface told bytes e (Err z) is reading h =
     (subst (λ (y : Refusal). IsFoundUnless (IsFoundIn (Some bytes)) (Err y)) (sym h) (refused bytes e reading))
 
 pub a_surface : (told : Option (List ℕ)) (bytes : List ℕ) (s : Surface) → told ≡ Some bytes
-    → IsReadingOf bytes (Ok (described s)) → IsFoundUnless (IsFoundIn told) (Ok s)
+    → IsReadingOf IsCompiled bytes (Ok (described s)) → IsFoundUnless (IsFoundIn told) (Ok s)
 a_surface told bytes s is reading =
     inl (subst (λ (t : Option (List ℕ)). IsFoundIn t (Ok (described s))) (sym is) (Ok (described s), reading, refl))
 

@@ -10,11 +10,13 @@ pub mod OptionTexts
 pub mod ClapSteps
 pub mod ClapWalk
 pub mod ClapOptions
+pub mod ManyWords
 -- the lines that are printed
 pub mod Lines
 pub mod Shown
 -- a whole run
 pub mod Budgets
 pub mod Found
+pub mod Twisted
 pub mod Answered
 pub mod Runs

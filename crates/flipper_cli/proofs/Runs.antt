@@ -14,7 +14,7 @@ use Rattle.flipper_cli.specs.declared.answers.Status.TheVariants.{Done, ShelfFau
 use Rattle.flipper_cli.specs.declared.refusal.Refusal.{Refusal}
 use Rattle.flipper_cli.specs.declared.refusal.Refusal.TheVariants.{Usage, Absent, Failed, UnknownBuiltin}
 use Rattle.flipper_cli.specs.declared.refusal.Refusal.TheVariants.{Surface, Word}
-use Rattle.flipper_cli.specs.declared.refusal.Refusal.TheVariants.{Coordinates, Overflow, Memory}
+use Rattle.flipper_cli.specs.declared.refusal.Refusal.TheVariants.{Coordinates, Twist, Overflow, Memory}
 
 -- ---- refusals by their status
 
@@ -26,6 +26,7 @@ not_done UnknownBuiltin h = cc
 not_done (Surface e) h = cc
 not_done (Word e) h = cc
 not_done (Coordinates e) h = cc
+not_done (Twist f) h = cc
 not_done (Overflow o) h = cc
 not_done Memory h = cc
 
@@ -37,6 +38,7 @@ failed_by_status UnknownBuiltin h = cc
 failed_by_status (Surface e) h = cc
 failed_by_status (Word e) h = cc
 failed_by_status (Coordinates e) h = cc
+failed_by_status (Twist f) h = cc
 failed_by_status (Overflow o) h = cc
 failed_by_status Memory h = cc
 

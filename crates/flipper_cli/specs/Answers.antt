@@ -11,7 +11,7 @@ use Rattle.flipper_cli.specs.declared.answers.Status.TheVariants.{Overflow as Ov
 use Rattle.flipper_cli.specs.declared.refusal.Refusal.{Refusal}
 use Rattle.flipper_cli.specs.declared.refusal.Refusal.TheVariants.{Usage, Absent, Failed}
 use Rattle.flipper_cli.specs.declared.refusal.Refusal.TheVariants.{UnknownBuiltin, Surface, Word}
-use Rattle.flipper_cli.specs.declared.refusal.Refusal.TheVariants.{Coordinates, Overflow, Memory}
+use Rattle.flipper_cli.specs.declared.refusal.Refusal.TheVariants.{Coordinates, Twist, Overflow, Memory}
 
 -- the exit status
 abbrev pub number_of : Status → ℕ
@@ -31,6 +31,7 @@ status_of UnknownBuiltin = InputRefused
 status_of (Surface _) = InputRefused
 status_of (Word _) = InputRefused
 status_of (Coordinates _) = InputRefused
+status_of (Twist _) = InputRefused
 status_of (Overflow _) = Overflows
 status_of Memory = NoMemory
 

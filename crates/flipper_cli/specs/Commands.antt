@@ -4,6 +4,8 @@ use Rattle.std.specs.Prelude.{not, map, String, string_bytes, codes, if◌then�
 use Rattle.std.specs.Option.{option_map}
 use Rattle.std.specs.Str.{bytes_eq}
 use Rattle.std.specs.declared.alloc.Global.{Global}
+use Rattle.surface_lib.specs.TwistForms.{hand_spelt}
+use Rattle.surface_lib.specs.declared.twister.Hand.{Hand}
 use Rattle.verdict_plan.specs.declared.budget.Budget.{Budget}
 use Rattle.flipper_cli.specs.Options.{budget_of}
 
@@ -16,6 +18,7 @@ pub data Source : Type 0 where
 pub data Command : Type 0 where
   show : (source : Source) → Command
   image : (source : Source) (word coordinates : List ℕ) → Command
+  twist : (source : Source) (coordinates : List ℕ) (hand : Hand) → Command
   classify : (source : Source) (word : List ℕ) (budget : Budget) → Command
 
 -- a text that may stand in the place of FILE, WORD or COORDS: it doesn't begin with `-`
@@ -42,20 +45,32 @@ abbrev pub image_with : List ℕ → List ℕ → List (List ℕ) → Option Com
 image_with source word (coordinates ∷ []) = image_command source word coordinates
 image_with source word _ = None
 
+abbrev pub twist_command : List ℕ → List ℕ → List ℕ → Option Command
+twist_command source coordinates hand =
+    if is_argument source && is_argument coordinates
+    then option_map (twist (source_of source) coordinates) (hand_spelt hand)
+    else None
+
+-- just one word behind FILE and COORDS: `plus` or `minus`
+abbrev pub twist_with : List ℕ → List ℕ → List (List ℕ) → Option Command
+twist_with source coordinates (hand ∷ []) = twist_command source coordinates hand
+twist_with source coordinates _ = None
+
 abbrev pub classify_command : List ℕ → List ℕ → List (List ℕ) → Option Command
 classify_command source word options =
     if is_argument source && is_argument word
     then option_map (classify (source_of source) word) (budget_of options)
     else None
 
--- the command that the words fit: `show FILE`, `image FILE WORD COORDS`, or `classify FILE WORD` and
--- options
+-- the command that the words fit: `show FILE`, `image FILE WORD COORDS`, `twist FILE COORDS HAND`,
+-- or `classify FILE WORD` and options
 abbrev pub command_named : List ℕ → List (List ℕ) → Option Command
 command_named name (source ∷ []) =
     if bytes_eq name (codes "show") then show_command source else None
 command_named name (source ∷ (word ∷ options)) =
     if bytes_eq name (codes "classify") then classify_command source word options
     else if bytes_eq name (codes "image") then image_with source word options
+    else if bytes_eq name (codes "twist") then twist_with source word options
     else None
 command_named name [] = None
 
@@ -69,6 +84,7 @@ command (name ∷ words) = command_named (string_bytes name) (map string_bytes w
 abbrev pub source_in : Command → Source
 source_in (show source) = source
 source_in (image source word coordinates) = source
+source_in (twist source coordinates hand) = source
 source_in (classify source word budget) = source
 
 abbrev pub IsReadFrom : Source → List ℕ → Type 0

@@ -71,7 +71,6 @@ fault_text (fault.TotalOver n) = with_number (codes "TotalOver") n
 fault_text fault.NotOneCurve = codes "NotOneCurve"
 fault_text fault.Peripheral = codes "Peripheral"
 fault_text (fault.Stuck n) = with_number (codes "Stuck") n
-fault_text fault.TwistsNotBuilt = codes "TwistsNotBuilt"
 fault_text (fault.Word error) = codes "word " ++ word_text error
 
 abbrev pub surface_text : SurfaceError → List ℕ

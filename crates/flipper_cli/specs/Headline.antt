@@ -4,30 +4,43 @@
 -- often the images of these cross it, each taken along by the map and cyclically reduced. All
 -- drawings of a multicurve have the same curves (`ideal_tri::drawing_laws`), so it is one image.
 -- What `show` prints is true of the surface.
+-- The steps that `twist` prints are those of the Dehn twist about the given curve, by its descent:
+-- the path that they name, backwards for the hand minus, has the map of the twist of that hand, and
+-- fixes the curve.
 -- Each verdict of `classify` other than unknown has a certificate that holds, and means what it says:
 -- `periodic K` that the K-th power of the word's map is the first that is inner; `reducible` and a
 -- vector that this is a multicurve's, with at least one curve and none that runs round a vertex, and
 -- that the word's map carries its curves to themselves, up to order, rotation and direction, so that
--- its image is itself. The powers are tried first, then the candidates for such a vector. With
--- `unknown` comes a true log of what was tried.
-use Rattle.std.specs.Prelude.{◌≡◌, ℕ, List, Option, Some, None, Ok}
+-- its image is itself; `pseudo-Anosov power M growth P/Q P/Q` that a train track fills the
+-- triangulation behind the printed flips, that the map of the flips backwards, the word M times and
+-- the flips carries it into itself, with a primitive matrix of passes, and that every iterate of
+-- every closed legal walk lies between the printed bounds, the lower first, which is above 1
+-- (`IsMeant` of `cert_text`). The powers are tried first, then the candidates for such a vector, then
+-- those for a track. With `unknown` comes a true log of what was tried.
+use Rattle.std.specs.Prelude.{◌≡◌, ℕ, ℤ, List, Option, Some, None, Ok}
 use Rattle.flip_io.specs.Files.{Files}
 use Rattle.ideal_tri.specs.Drawings.{draw}
+use Rattle.ideal_tri.specs.Labels.{edge_of}
 use Rattle.ideal_tri.specs.Strands.{IsDrawing}
 use Rattle.tri_atlas.specs.Maps.{IsImageVector, path_map}
 use Rattle.tri_atlas.specs.Moves.{Move}
 use Rattle.surface_lib.specs.Described.{Described}
 use Rattle.surface_lib.specs.Refusals.{moves_kind, reading}
+use Rattle.surface_lib.specs.declared.twister.Hand.{Hand}
+use Rattle.twist_compile.specs.TwistLaws.{IsTwist}
+use Rattle.twist_compile.specs.TwistPaths.{IsCompiledFrom, IsTwistable, exchange_images}
+use Rattle.twist_compile.specs.TwistPaths.{hand_moves, plus_moves}
 use Rattle.cert_text.specs.CertificateLaws.{IsMeant}
 use Rattle.cert_text.specs.Certificates.{Certificate}
 use Rattle.cert_text.specs.Holds.{HoldsFor}
 use Rattle.verdict_plan.specs.Verdicts.{IsVerdict}
 use Rattle.verdict_plan.specs.declared.budget.Budget.{Budget}
-use Rattle.flipper_cli.specs.Commands.{Command, show, image, classify, source_in}
+use Rattle.flipper_cli.specs.Commands.{Command, show, image, twist, classify, source_in}
 use Rattle.flipper_cli.specs.Coordinates.{numbers_in}
 use Rattle.flipper_cli.specs.Line.{line_of}
 use Rattle.flipper_cli.specs.Report.{IsFound}
 use Rattle.flipper_cli.specs.Show.{show_lines}
+use Rattle.flipper_cli.specs.Twists.{twist_lines}
 use Rattle.flipper_cli.specs.Verdicts.{verdict_lines}
 
 -- the line printed for a multicurve is that of its image under the map of the word's moves
@@ -40,6 +53,27 @@ pub record IsImageLine (d : Described) (word coordinates printed : List ℕ) : T
   pub is_drawn : IsDrawing d.triangles multicurve (draw d.triangles multicurve)
   pub is_image : IsImageVector d.triangles multicurve (path_map moves) vector
   pub is_printed : printed ≡ line_of vector
+
+-- the lines printed for a curve that passes the tests are the steps of its twist; the path of these
+-- steps, backwards for the hand minus, is the twist of the hand
+pub record AreTwistSteps (triangles : List (List ℤ)) (curve : List ℕ) (hand : Hand)
+    (printed : List ℕ) : Type 0 where
+  pub down : List ℕ
+  pub end : List (List ℤ)
+  pub p : ℤ
+  pub q : ℤ
+  pub is_twistable : IsTwistable triangles curve
+  pub are_steps : IsCompiledFrom triangles curve down end p q
+  pub is_twist : IsTwist triangles curve down p q hand
+      (hand_moves hand (plus_moves triangles down end p q))
+  pub is_printed : printed ≡ twist_lines hand down (edge_of q) (exchange_images end p q)
+
+-- the lines printed for coordinates and a hand are those of the twist about their curve
+pub record IsTwistLines (d : Described) (coordinates : List ℕ) (hand : Hand) (printed : List ℕ)
+    : Type 0 where
+  pub curve : List ℕ
+  pub of_coordinates : numbers_in coordinates ≡ Ok curve
+  pub are_steps : AreTwistSteps d.triangles curve hand printed
 
 -- the lines printed for a word are those of its verdict, and the certificate holds
 pub record IsVerdictLines (d : Described) (word : List ℕ) (budget : Budget) (printed : List ℕ)
@@ -56,6 +90,7 @@ pub record IsVerdictLines (d : Described) (word : List ℕ) (budget : Budget) (p
 abbrev pub IsPrinted : Command → Described → List ℕ → Type 0
 IsPrinted (show source) d printed = printed ≡ show_lines d
 IsPrinted (image source word coordinates) d printed = IsImageLine d word coordinates printed
+IsPrinted (twist source coordinates hand) d printed = IsTwistLines d coordinates hand printed
 IsPrinted (classify source word budget) d printed = IsVerdictLines d word budget printed
 
 -- what the program printed, with status 0, for a command over these files: it is true of the

@@ -13,6 +13,7 @@ pub mod Options
 pub mod RefusalCauses
 pub mod RefusalLines
 pub mod Show
+pub mod Twists
 pub mod Verdicts
 -- worked drawings
 pub mod WorkedDrawings

@@ -1,4 +1,5 @@
--- The options on the command line, as `--powers 40 --curves=100`, and the budget that they give.
+-- The options on the command line, as `--powers 40 --curves=100 --tracks 9`, and the budget that
+-- they give.
 use Rattle.std.specs.Prelude.{◌&&◌, ◌==◌, ℕ, Bool, true, false, not, List, [], ◌∷◌, Option, Some, None}
 use Rattle.std.specs.Prelude.{length, drop, nat_le, nat_eq, find, codes, if◌then◌else◌}
 use Rattle.std.specs.Prelude.{option_map, option_and_then}
@@ -6,8 +7,8 @@ use Rattle.std.specs.List.{list_any, before_first, after_first, starts_with}
 use Rattle.std.specs.Option.{option_map_or}
 use Rattle.std.specs.Str.{all_ascii_digits, bytes_eq}
 use Rattle.std.specs.Str.Parse.{digits_value}
-use Rattle.cert_text.specs.Holds.{order_limit}
-use Rattle.verdict_plan.specs.Budgets.{curve_limit}
+use Rattle.cert_text.specs.Limits.{order_limit}
+use Rattle.verdict_plan.specs.Budgets.{curve_limit, track_limit}
 use Rattle.verdict_plan.specs.declared.budget.Budget.{Budget}
 
 -- an option as the words give it: its name, and the text of its number
@@ -57,6 +58,7 @@ abbrev pub limit_of : List ℕ → Option ℕ
 limit_of name =
     if bytes_eq name (codes "powers") then Some order_limit
     else if bytes_eq name (codes "curves") then Some curve_limit
+    else if bytes_eq name (codes "tracks") then Some track_limit
     else None
 
 -- 1 to 5 decimal digits
@@ -92,12 +94,11 @@ abbrev pub number_of : List ℕ → ℕ → List Setting → ℕ
 number_of name otherwise settings =
     option_map_or (digits_value 10) (number_text name settings) otherwise
 
--- there is no option for train tracks, which nothing searches for yet
 abbrev pub budget_in : List Setting → Budget
 budget_in settings = record {
   powers = number_of (codes "powers") 48 settings;
   curves = number_of (codes "curves") 256 settings;
-  tracks = 0;
+  tracks = number_of (codes "tracks") 256 settings;
 }
 
 abbrev pub budget_if_fitting : List Setting → Option Budget

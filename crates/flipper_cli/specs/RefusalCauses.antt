@@ -1,4 +1,5 @@
 -- Which refusal answers an error of a layer below: want of memory is one refusal wherever it comes.
+use Rattle.edge_coords.specs.Coordinates.{total_of}
 use Rattle.flip_io.specs.declared.whole.ReadError.{ReadError}
 use Rattle.flip_io.specs.declared.whole.ReadError.TheVariants as read
 use Rattle.surface_lib.specs.declared.error.WordError.{WordError}
@@ -7,12 +8,17 @@ use Rattle.surface_lib.specs.declared.surface_error.SurfaceError.{SurfaceError}
 use Rattle.surface_lib.specs.declared.surface_error.SurfaceError.TheVariants as surface
 use Rattle.surface_lib.specs.declared.builtins.BuiltinError.{BuiltinError}
 use Rattle.surface_lib.specs.declared.builtins.BuiltinError.TheVariants as builtin
+use Rattle.surface_lib.specs.declared.twister.TwistError.{TwistError}
+use Rattle.surface_lib.specs.declared.twister.TwistError.TheVariants as error
 use Rattle.flipper_cli.specs.declared.coordinates.NumbersError.{NumbersError}
 use Rattle.flipper_cli.specs.declared.coordinates.NumbersError.TheVariants as numbers
 use Rattle.flipper_cli.specs.declared.refusal.CoordinatesError.TheVariants.{BadNumber}
 use Rattle.flipper_cli.specs.declared.refusal.Refusal.{Refusal}
 use Rattle.flipper_cli.specs.declared.refusal.Refusal.TheVariants.{Absent, Failed}
-use Rattle.flipper_cli.specs.declared.refusal.Refusal.TheVariants.{Surface, Word, Coordinates, UnknownBuiltin, Memory}
+use Rattle.flipper_cli.specs.declared.refusal.Refusal.TheVariants.{Surface, Word, Coordinates}
+use Rattle.flipper_cli.specs.declared.refusal.Refusal.TheVariants.{Twist, UnknownBuiltin, Memory}
+use Rattle.flipper_cli.specs.declared.refusal.TwistFault.TheVariants.{TotalOver, NotOneCurve}
+use Rattle.flipper_cli.specs.declared.refusal.TwistFault.TheVariants.{Peripheral, Stuck}
 
 abbrev pub for_read : ReadError → Refusal
 for_read read.Absent = Absent
@@ -35,3 +41,10 @@ for_numbers numbers.Memory = Memory
 abbrev pub for_builtin : BuiltinError → Refusal
 for_builtin builtin.UnknownBuiltin = UnknownBuiltin
 for_builtin builtin.Memory = Memory
+
+abbrev pub for_twist : TwistError → Refusal
+for_twist (error.TotalOver n) = Twist (TotalOver n)
+for_twist error.NotOneCurve = Twist NotOneCurve
+for_twist error.Peripheral = Twist Peripheral
+for_twist (error.Stuck at) = Twist (Stuck (total_of at.numbers))
+for_twist error.Memory = Memory

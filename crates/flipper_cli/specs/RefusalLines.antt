@@ -11,7 +11,10 @@ use Rattle.flipper_cli.specs.declared.refusal.Refusal.{Refusal}
 use Rattle.flipper_cli.specs.declared.refusal.Refusal.TheVariants.{Usage, Absent, Failed}
 use Rattle.flipper_cli.specs.declared.refusal.Refusal.TheVariants.{UnknownBuiltin}
 use Rattle.flipper_cli.specs.declared.refusal.Refusal.TheVariants.{Surface, Word, Coordinates}
-use Rattle.flipper_cli.specs.declared.refusal.Refusal.TheVariants.{Overflow, Memory}
+use Rattle.flipper_cli.specs.declared.refusal.Refusal.TheVariants.{Twist, Overflow, Memory}
+use Rattle.flipper_cli.specs.declared.refusal.TwistFault.{TwistFault}
+use Rattle.flipper_cli.specs.declared.refusal.TwistFault.TheVariants.{TotalOver, NotOneCurve}
+use Rattle.flipper_cli.specs.declared.refusal.TwistFault.TheVariants.{Peripheral, Stuck}
 
 abbrev pub coords_text : CoordsError → List ℕ
 coords_text (WrongLength n) = with_number (codes "WrongLength") n
@@ -28,6 +31,13 @@ abbrev pub overflow_text : OverflowAt → List ℕ
 overflow_text o = with_number (codes "flip") o.flip ++ codes " "
     ++ with_number (codes "edge") o.edge ++ codes " " ++ with_number (codes "value") o.value
 
+-- the total of the curve, or that where its descent ended
+abbrev pub twist_text : TwistFault → List ℕ
+twist_text (TotalOver n) = with_number (codes "TotalOver") n
+twist_text NotOneCurve = codes "NotOneCurve"
+twist_text Peripheral = codes "Peripheral"
+twist_text (Stuck n) = with_number (codes "Stuck") n
+
 abbrev pub refusal_text : Refusal → List ℕ
 refusal_text Usage = codes "usage"
 refusal_text Absent = codes "shelf Absent"
@@ -36,6 +46,7 @@ refusal_text UnknownBuiltin = codes "surface UnknownBuiltin"
 refusal_text (Surface error) = codes "surface " ++ surface_text error
 refusal_text (Word error) = codes "word " ++ word_text error
 refusal_text (Coordinates error) = codes "coordinates " ++ coordinates_text error
+refusal_text (Twist fault) = codes "twist " ++ twist_text fault
 refusal_text (Overflow o) = codes "overflow " ++ overflow_text o
 refusal_text Memory = codes "memory"
 

@@ -1,13 +1,14 @@
 -- The report of a call: which status, which bytes for the output and which for the error stream,
 -- for its words over the files of the shelf.
-use Rattle.std.specs.Prelude.{◌≡◌, ◌⊎◌, ℕ, List, Option, Some, None, Result, Ok, Err}
+use Rattle.std.specs.Prelude.{◌≡◌, ◌⊎◌, ℕ, ℤ, List, Option, Some, None, Result, Ok, Err}
 use Rattle.std.specs.Prelude.{MatchResult}
+use Rattle.ideal_tri.specs.Labels.{edge_of}
 use Rattle.ideal_tri.specs.Vectors.{IsMulticurve}
 use Rattle.flip_io.specs.Files.{Files}
 use Rattle.tri_atlas.specs.Maps.{IsImageVector, path_map}
 use Rattle.tri_atlas.specs.MovedVectors.{OverflowsAt}
 use Rattle.tri_atlas.specs.Moves.{Move}
-use Rattle.edge_coords.specs.Coordinates.{AreSmall}
+use Rattle.edge_coords.specs.Coordinates.{AreSmall, Coordinates as CoordinatesAt, total_of}
 use Rattle.edge_coords.specs.MovedCoordinates.{IsOverflowAlong}
 use Rattle.edge_coords.specs.Refusals.{IsRefusedFor}
 use Rattle.edge_coords.specs.declared.coords.CoordsError.{CoordsError}
@@ -19,23 +20,30 @@ use Rattle.surface_lib.specs.Refusals.{moves_kind, reading}
 use Rattle.surface_lib.specs.SurfaceFiles.{IsReadingOf}
 use Rattle.surface_lib.specs.declared.error.WordError.{WordError}
 use Rattle.surface_lib.specs.declared.surface_error.SurfaceError.{SurfaceError}
+use Rattle.surface_lib.specs.declared.twister.Hand.{Hand}
+use Rattle.surface_lib.specs.declared.twister.TwistError.TheVariants as error
+use Rattle.twist_compile.specs.TwistPaths.{IsCompiled, IsCompiledFrom, IsTwistable, exchange_images}
 use Rattle.cert_text.specs.Certificates.{Certificate}
 use Rattle.verdict_plan.specs.Verdicts.{IsVerdict}
 use Rattle.verdict_plan.specs.declared.budget.Budget.{Budget}
 use Rattle.flipper_cli.specs.Answers.{Report, printed, refused}
-use Rattle.flipper_cli.specs.Commands.{Command, Source, show, image, classify, file, builtin}
+use Rattle.flipper_cli.specs.Commands.{Command, Source, show, image, twist, classify, file, builtin}
 use Rattle.flipper_cli.specs.Commands.{source_in}
 use Rattle.flipper_cli.specs.Coordinates.{numbers_in}
 use Rattle.flipper_cli.specs.Line.{line_of}
 use Rattle.flipper_cli.specs.RefusalCauses.{for_numbers}
 use Rattle.flipper_cli.specs.Show.{show_lines}
+use Rattle.flipper_cli.specs.Twists.{twist_lines}
 use Rattle.flipper_cli.specs.Verdicts.{verdict_lines}
 use Rattle.flipper_cli.specs.declared.coordinates.NumbersError.{NumbersError}
 use Rattle.flipper_cli.specs.declared.refusal.CoordinatesError.TheVariants.{Coords}
 use Rattle.flipper_cli.specs.declared.refusal.Refusal.{Refusal}
 use Rattle.flipper_cli.specs.declared.refusal.Refusal.TheVariants.{Usage, Absent, UnknownBuiltin}
 use Rattle.flipper_cli.specs.declared.refusal.Refusal.TheVariants.{Surface, Word, Coordinates}
-use Rattle.flipper_cli.specs.declared.refusal.Refusal.TheVariants.{Overflow}
+use Rattle.flipper_cli.specs.declared.refusal.Refusal.TheVariants.{Twist, Overflow}
+use Rattle.flipper_cli.specs.declared.refusal.TwistFault.{TwistFault}
+use Rattle.flipper_cli.specs.declared.refusal.TwistFault.TheVariants.{TotalOver, NotOneCurve}
+use Rattle.flipper_cli.specs.declared.refusal.TwistFault.TheVariants.{Peripheral, Stuck}
 
 -- ---- the surface
 
@@ -47,7 +55,7 @@ as_found (Err e) = Err (Surface e)
 abbrev pub IsFoundIn : Option (List ℕ) → Result Described Refusal → Type 0
 IsFoundIn None found = found ≡ Err Absent
 IsFoundIn (Some bytes) found =
-    (read : Result Described SurfaceError) × IsReadingOf bytes read × (found ≡ as_found read)
+    (read : Result Described SurfaceError) × IsReadingOf IsCompiled bytes read × (found ≡ as_found read)
 
 abbrev pub as_builtin : Option Described → Result Described Refusal
 as_builtin None = Err UnknownBuiltin
@@ -58,6 +66,20 @@ abbrev pub IsFound : Files → Source → Result Described Refusal → Type 0
 IsFound files (file name) found = IsFoundIn (files name) found
 IsFound files (builtin name) found = found ≡ as_builtin (builtin_named name)
 
+-- ---- coordinates
+
+-- the numbers are no coordinates; or they are those of a multicurve, with numbers below 2^126, and
+-- it is answered so
+abbrev pub IsVectorReport : Described → (List ℕ → Report → Type 0) → List ℕ → Report → Type 0
+IsVectorReport d IsAnswered w r =
+    ((e : CoordsError) × IsRefusedFor d.triangles w e × (r ≡ refused (Coordinates (Coords e))))
+    ⊎ (IsMulticurve d.triangles w × AreSmall w × IsAnswered w r)
+
+abbrev pub IsNumbersReport : Described → (List ℕ → Report → Type 0) → Result (List ℕ) NumbersError
+    → Report → Type 0
+IsNumbersReport d IsAnswered numbers r =
+    MatchResult numbers (λ w. IsVectorReport d IsAnswered w r) (λ e. r ≡ refused (for_numbers e))
+
 -- ---- `image`, from the last step back
 
 -- the vector, or the overflow, of a multicurve along the moves
@@ -67,20 +89,34 @@ IsImageReport d moves w r =
     ⊎ (((k : ℕ) → ¬ OverflowsAt COORDINATE_LIMIT d.triangles w moves k)
     × ((v : List ℕ) × IsImageVector d.triangles w (path_map moves) v × (r ≡ printed (line_of v))))
 
--- the numbers are no coordinates, or those of a multicurve with numbers below 2^126
-abbrev pub IsVectorReport : Described → List Move → List ℕ → Report → Type 0
-IsVectorReport d moves w r =
-    ((e : CoordsError) × IsRefusedFor d.triangles w e × (r ≡ refused (Coordinates (Coords e))))
-    ⊎ (IsMulticurve d.triangles w × AreSmall w × IsImageReport d moves w r)
-
-abbrev pub IsNumbersReport : Described → List Move → Result (List ℕ) NumbersError → Report → Type 0
-IsNumbersReport d moves numbers r =
-    MatchResult numbers (λ w. IsVectorReport d moves w r) (λ e. r ≡ refused (for_numbers e))
-
 abbrev pub IsWordReport : Described → Result (List Move) WordError → List ℕ → Report → Type 0
 IsWordReport d word coordinates r =
-    MatchResult word (λ moves. IsNumbersReport d moves (numbers_in coordinates) r)
+    MatchResult word (λ moves. IsNumbersReport d (IsImageReport d moves) (numbers_in coordinates) r)
     (λ e. r ≡ refused (Word e))
+
+-- ---- `twist`
+
+-- why there is no twist about a multicurve: the first test that it fails
+abbrev pub IsTwistFault : List (List ℤ) → List ℕ → Hand → TwistFault → Type 0
+IsTwistFault triangles w hand (TotalOver n) = IsCompiled triangles w hand (Err (error.TotalOver n))
+IsTwistFault triangles w hand NotOneCurve = IsCompiled triangles w hand (Err error.NotOneCurve)
+IsTwistFault triangles w hand Peripheral = IsCompiled triangles w hand (Err error.Peripheral)
+IsTwistFault triangles w hand (Stuck n) =
+    (at : CoordinatesAt) × IsCompiled triangles w hand (Err (error.Stuck at))
+    × (n ≡ total_of at.numbers)
+
+-- the steps of the twist: the descent of the curve, the flip at its end, and the relabelling behind
+abbrev pub IsStepsReport : Described → Hand → List ℕ → Report → Type 0
+IsStepsReport d hand w r =
+    (down : List ℕ) × (end : List (List ℤ)) × (p : ℤ) × (q : ℤ)
+    × IsCompiledFrom d.triangles w down end p q
+    × (r ≡ printed (twist_lines hand down (edge_of q) (exchange_images end p q)))
+
+-- the steps of the twist about a multicurve, or why there is none
+abbrev pub IsTwistReport : Described → Hand → List ℕ → Report → Type 0
+IsTwistReport d hand w r =
+    ((fault : TwistFault) × IsTwistFault d.triangles w hand fault × (r ≡ refused (Twist fault)))
+    ⊎ (IsTwistable d.triangles w × IsStepsReport d hand w r)
 
 -- ---- `classify`
 
@@ -100,6 +136,8 @@ abbrev pub IsSurfaceReport : Command → Described → Report → Type 0
 IsSurfaceReport (show source) d r = r ≡ printed (show_lines d)
 IsSurfaceReport (image source word coordinates) d r =
     IsWordReport d (reading moves_kind d.generators word) coordinates r
+IsSurfaceReport (twist source coordinates hand) d r =
+    IsNumbersReport d (IsTwistReport d hand) (numbers_in coordinates) r
 IsSurfaceReport (classify source word budget) d r =
     IsClassifyReport d (reading moves_kind d.generators word) budget r
 

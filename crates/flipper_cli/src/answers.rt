@@ -10,7 +10,7 @@ use flip_io::ShelfFault;
 pub enum Status {
     /// All went well; the answer is on the output.
     Done,
-    /// The surface file, the word or the coordinates are refused.
+    /// The surface file, the word, the coordinates or the curve of a twist are refused.
     InputRefused,
     /// The words of the command line fit no command.
     WordsRefused,
@@ -53,7 +53,8 @@ impl Refusal {
             Refusal::UnknownBuiltin
             | Refusal::Surface(_)
             | Refusal::Word(_)
-            | Refusal::Coordinates(_) => Status::InputRefused,
+            | Refusal::Coordinates(_)
+            | Refusal::Twist(_) => Status::InputRefused,
             Refusal::Overflow(_) => Status::Overflow,
             Refusal::Memory => Status::Memory,
         }

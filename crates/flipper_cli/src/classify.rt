@@ -22,7 +22,7 @@ use std::alloc::Global;
 use surface_lib::{Surface, read_word};
 
 /// The verdict on a word in the generators of the surface, and its certificate, as two lines. The
-/// surface is as it was; the search may add triangulations to its atlas.
+/// surface keeps its name and generators; the search may add triangulations to its atlas.
 pub(crate) fn classify(
     alloc: Global,
     s: &mut Surface,
@@ -58,7 +58,8 @@ fn lines(alloc: Global, c: &Certificate) -> Result<Vec<u8>, Memory>
 }
 
 /// The verdict alone: `periodic` and the order, `reducible` and the numbers of a multicurve that the
-/// word fixes, or `unknown`.
+/// word fixes, `pseudo-Anosov` with the power that carries a track and the bounds of its growth, or
+/// `unknown`.
 fn verdict_text(alloc: Global, c: &Certificate) -> Result<String, Memory>
     ensures { IfOk result (λ text. string_bytes text ≡ verdict_text (seen c.now)) }
 {
@@ -69,6 +70,14 @@ fn verdict_text(alloc: Global, c: &Certificate) -> Result<String, Memory>
             text.push_str("reducible ")?;
             push_numbers(&mut text, coords)?;
         }
+        Certificate::PseudoAnosov(track) => {
+            let (low, high) = (track.low, track.high);
+            write!(
+                text,
+                "pseudo-Anosov power {} growth {}/{} {}/{}",
+                track.power, low.0, low.1, high.0, high.1
+            )?;
+        }
         Certificate::Unknown { .. } => text.push_str("unknown")?,
     }
     Ok(text)
@@ -77,8 +86,30 @@ fn verdict_text(alloc: Global, c: &Certificate) -> Result<String, Memory>
 #[cfg(test)]
 mod tests {
     use super::*;
+    use cert_text::{Pa, TrackLine};
     use edge_coords::CurveLine;
     use std::test::Fail;
+
+    #[test]
+    fn lines_of_a_carried_track(rt: HostRuntime) -> Result<(), Fail> {
+        let alloc = rt.alloc();
+        let track = Certificate::PseudoAnosov(Pa {
+            power: 2,
+            flips: vec![in alloc; 4]?,
+            left_out: Vec::new(alloc),
+            anchors: Vec::new(alloc),
+            images: Vec::new(alloc),
+            matrix: Vec::new(alloc),
+            exponent: 3,
+            u: vec![in alloc; 34, 55]?,
+            low: (89, 34),
+            high: (9_223_372_036_854_775_807, 2),
+        });
+        let text =
+            "pseudo-Anosov power 2 growth 89/34 9223372036854775807/2\n{\"anchors\":[],\"exponent\":3,\"flips\":[4],\"high\":[9223372036854775807,2],\"images\":[],\"kind\":\"pseudo-anosov\",\"left_out\":[],\"low\":[89,34],\"matrix\":[],\"power\":2,\"u\":[34,55]}\n";
+        assert_eq!(rt; lines(alloc, &track)?.as_slice(), text.as_bytes());
+        Ok(())
+    }
 
     #[test]
     fn lines_of_verdicts(rt: HostRuntime) -> Result<(), Fail> {
@@ -90,7 +121,7 @@ mod tests {
             powers: Vec::new(alloc),
             capped: Some((1, 262_145)),
             curves: vec![in alloc; CurveLine::Empty, CurveLine::Moved]?,
-            tracks: Vec::new(alloc),
+            tracks: vec![in alloc; TrackLine::Cap { n: 262_145 }, TrackLine::NoBounds]?,
         };
         for (certificate, text) in [
             (
@@ -99,7 +130,7 @@ mod tests {
             ),
             (
                 unknown,
-                "unknown\n{\"capped\":[1,262145],\"curves\":[\"empty\",\"moved\"],\"kind\":\"unknown\",\"powers\":[],\"tracks\":[]}\n",
+                "unknown\n{\"capped\":[1,262145],\"curves\":[\"empty\",\"moved\"],\"kind\":\"unknown\",\"powers\":[],\"tracks\":[\"cap 262145\",\"no_bounds\"]}\n",
             ),
         ] {
             let bytes = lines(alloc, &certificate)?;

@@ -1,11 +1,13 @@
 //! The words of the command line.
 ghost use Rattle.std.specs.Prelude.{◌≡◌, MatchOption, Some, None};
 ghost use Rattle.std.specs.Prelude.{map, string_bytes};
+ghost use Rattle.surface_lib.specs.TwistForms.{hand_spelt};
 ghost use Rattle.flipper_cli.specs.Commands.{command, show_command, image_command, is_argument};
-ghost use Rattle.flipper_cli.specs.Commands.{classify_command, source_of};
+ghost use Rattle.flipper_cli.specs.Commands.{twist_command, classify_command, source_of};
 ghost use Rattle.flipper_cli.specs.inside.SeenCommand.{seen, seen_source, HasBudget};
 
 use crate::options::fits_options;
+use surface_lib::Hand;
 
 /// Where a surface comes from.
 #[derive(Clone, Copy)]
@@ -29,6 +31,12 @@ pub(crate) enum Command<'a> {
         word: &'a str,
         coordinates: &'a str,
     },
+    /// The steps of the Dehn twist of a hand about a curve.
+    Twist {
+        source: Source<'a>,
+        coordinates: &'a str,
+        hand: Hand,
+    },
     /// What kind of mapping class a word is, with these options.
     Classify {
         source: Source<'a>,
@@ -37,9 +45,10 @@ pub(crate) enum Command<'a> {
     },
 }
 
-/// The command that the words fit: `show FILE`, `image FILE WORD COORDS`, or `classify FILE WORD` and
-/// options. None of FILE, WORD and COORDS begins with `-`. A FILE that begins with `@` names a
-/// built-in surface behind it; any other is a file's name.
+/// The command that the words fit: `show FILE`, `image FILE WORD COORDS`, `twist FILE COORDS HAND`,
+/// or `classify FILE WORD` and options. None of FILE, WORD and COORDS begins with `-`. A FILE that
+/// begins with `@` names a built-in surface behind it; any other is a file's name. HAND is `plus` or
+/// `minus`.
 pub(crate) fn command_of(words: &[String]) -> Option<Command<'_>>
     ensures { MatchOption result (command words.now ≡ None)
         (λ c. (command words.now ≡ Some (seen c)) × HasBudget c) }
@@ -51,6 +60,9 @@ pub(crate) fn command_of(words: &[String]) -> Option<Command<'_>>
         }
         [name, file, word, coordinates] if name.as_str() == "image" => {
             image_command(file.as_str(), word.as_str(), coordinates.as_str())
+        }
+        [name, file, coordinates, hand] if name.as_str() == "twist" => {
+            twist_command(file.as_str(), coordinates.as_str(), hand.as_str())
         }
         _ => None,
     }
@@ -83,6 +95,34 @@ fn image_command<'a>(file: &'a str, word: &'a str, coordinates: &'a str) -> Opti
         })
     } else {
         None
+    }
+}
+
+/// The command `twist` with these words behind it, if they may stand there.
+fn twist_command<'a>(file: &'a str, coordinates: &'a str, hand: &'a str) -> Option<Command<'a>>
+    ensures { MatchOption result (twist_command file.now coordinates.now hand.now ≡ None)
+        (λ c. (twist_command file.now coordinates.now hand.now ≡ Some (seen c)) × HasBudget c) }
+{
+    let hand = hand_of(hand)?;
+    if is_argument(file) && is_argument(coordinates) {
+        Some(Command::Twist {
+            source: source_of(file),
+            coordinates,
+            hand,
+        })
+    } else {
+        None
+    }
+}
+
+/// The hand that a word names.
+fn hand_of(word: &str) -> Option<Hand>
+    ensures { result ≡ hand_spelt word.now }
+{
+    match word {
+        "plus" => Some(Hand::Plus),
+        "minus" => Some(Hand::Minus),
+        _ => None,
     }
 }
 
@@ -146,6 +186,16 @@ mod tests {
             ("image torus.json r 1,1,2", true),
             ("image @torus @ @", true),
             ("image torus.json  ", true),
+            ("twist torus.json 1,1,0 plus", true),
+            ("twist @torus  minus", true),
+            ("twist torus.json 1,1,0", false),
+            ("twist torus.json 1,1,0 Plus", false),
+            ("twist torus.json 1,1,0 plus minus", false),
+            ("twist torus.json -1,1,0 plus", false),
+            ("twist -torus 1,1,0 plus", false),
+            ("twist torus.json 1,1,0 -plus", false),
+            ("twist torus.json plus 1,1,0", false),
+            ("twist torus.json 1,1,0 --", false),
             ("show", false),
             ("show -torus", false),
             ("show torus.json r", false),
@@ -169,6 +219,12 @@ mod tests {
             ("classify torus.json r --curves=00256", true),
             ("classify torus.json r --powers 1 --curves=1", true),
             ("classify torus.json r --curves 1 --powers=1", true),
+            ("classify torus.json r --tracks 0", true),
+            ("classify torus.json r --tracks=04096", true),
+            (
+                "classify torus.json r --tracks 1 --curves=1 --powers 1",
+                true,
+            ),
             ("classify torus.json", false),
             ("classify torus.json -r", false),
             ("classify -torus r", false),
@@ -193,8 +249,13 @@ mod tests {
                 false,
             ),
             ("classify torus.json r --powers --curves 1", false),
-            ("classify torus.json r --tracks 1", false),
-            ("classify torus.json r --tracks=0", false),
+            ("classify torus.json r --tracks", false),
+            ("classify torus.json r --tracks=", false),
+            ("classify torus.json r --tracks 4097", false),
+            ("classify torus.json r --tracks=4097", false),
+            ("classify torus.json r --tracks 000001", false),
+            ("classify torus.json r --tracks 1 --tracks=1", false),
+            ("classify torus.json r --track 1", false),
             ("classify torus.json --powers 1 r", false),
             ("classify --powers 1 torus.json r", false),
             ("classify torus.json r -p 1", false),

@@ -15,11 +15,14 @@ const PAIR: &str = "[[0,1,2],[-1,-3,-2],[3,4,5],[-4,-6,-5]]";
 /// Edge 0 has one triangle on both sides.
 const FOLDED: &str = "[[0,-1,1],[-2,2,-3]]";
 
+/// A torus with a curve, of the coordinates 4, 2, 2, 2, 4, 4, that bounds a torus without a vertex.
+const HIDDEN: &str = "[[-3,-5,-1],[1,0,-4],[4,-6,2],[5,3,-2]]";
+
 /// A twist of the torus.
 const TWIST: &str = r#"{"name":"a","flips":[0],"relabel":[2,1,-1]}"#;
 
 /// Versions, triangles and generators of a surface file, and what stands behind `error: surface `.
-const FILES: [(&str, &str, &str, &str); 34] = [
+const FILES: [(&str, &str, &str, &str); 37] = [
     ("3", TORUS, TWIST, "BadShape version"),
     ("1.0", TORUS, TWIST, "BadShape version"),
     ("1", "3", TWIST, "BadShape triangles"),
@@ -138,8 +141,26 @@ const FILES: [(&str, &str, &str, &str); 34] = [
     (
         "1",
         TORUS,
-        r#"{"name":"a","twist":[1,1,0],"hand":"minus"}"#,
-        "generator 0 TwistsNotBuilt",
+        r#"{"name":"a","twist":[4096,4096,0],"hand":"minus"}"#,
+        "generator 0 TotalOver 8192",
+    ),
+    (
+        "1",
+        TORUS,
+        r#"{"name":"a","twist":[2,2,0],"hand":"minus"}"#,
+        "generator 0 NotOneCurve",
+    ),
+    (
+        "1",
+        TORUS,
+        r#"{"name":"a","twist":[2,2,2],"hand":"plus"}"#,
+        "generator 0 Peripheral",
+    ),
+    (
+        "1",
+        HIDDEN,
+        r#"{"name":"a","twist":[4,2,2,2,4,4],"hand":"plus"}"#,
+        "generator 0 Stuck 10",
     ),
     (
         "2",

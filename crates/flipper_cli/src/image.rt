@@ -9,7 +9,7 @@ ghost use Rattle.surface_lib.specs.Refusals.{moves_kind, reading};
 ghost use Rattle.surface_lib.specs.Surfaces.{IsSurface, IsLoop};
 ghost use Rattle.flipper_cli.specs.Headline.{IsImageLine};
 ghost use Rattle.flipper_cli.specs.Line.{line_of};
-ghost use Rattle.flipper_cli.specs.Report.{IsVectorReport, IsWordReport};
+ghost use Rattle.flipper_cli.specs.Report.{IsImageReport, IsVectorReport, IsWordReport};
 ghost use Rattle.flipper_cli.specs.Run.{shown};
 ghost use Rattle.flipper_cli.specs.inside.AboutSurfaces.{IsAboutSurface};
 
@@ -56,8 +56,9 @@ fn image_along(
 ) -> Result<Vec<u8>, Refusal>
     requires surface { IsSurface s.now }
     requires closed { IsLoop s.now.atlas path.now }
-    ensures report { IsVectorReport (described s.now) (moves_of s.now.atlas path.now) numbers.now
-        (shown result) ⊎ (result ≡ Err Refusal.Memory) }
+    ensures report { IsVectorReport (described s.now)
+        (IsImageReport (described s.now) (moves_of s.now.atlas path.now)) numbers.now (shown result)
+        ⊎ (result ≡ Err Refusal.Memory) }
     ensures printed { IfOk result (λ bytes. (v : List ℕ)
         × IsDrawing (described s.now).triangles numbers.now
         (draw (described s.now).triangles numbers.now)

@@ -2,12 +2,12 @@
 //!
 //! `run` is the program's top call. Its contract is the project's claim, read in `specs/` in this
 //! order: `Commands` and `Options` (what the words ask for), `Coordinates` (the numbers of a vector),
-//! `Verdicts` (the lines of a verdict), `Report` (which status and which bytes a call answers),
-//! `Headline` (what the printed vector and the verdict mean) and `Run` (the causes of all other
-//! answers, which files are read, and what the sinks took). What a surface file and a word are is
-//! defined in `surface_lib`, the first verdict within a budget in `verdict_plan`, and what its
-//! certificate says and means in `cert_text`. `WorkedDrawings` shows at three vectors what the
-//! headline speaks of.
+//! `Twists` and `Verdicts` (the lines of a twist and of a verdict), `Report` (which status and which
+//! bytes a call answers), `Headline` (what the printed vector, steps and verdict mean) and `Run` (the
+//! causes of all other answers, which files are read, and what the sinks took). What a surface file
+//! and a word are is defined in `surface_lib`, what the Dehn twist about a curve is in
+//! `twist_compile`, the first verdict within a budget in `verdict_plan`, and what its certificate says
+//! and means in `cert_text`. `WorkedDrawings` shows at three vectors what the headline speaks of.
 //!
 //! ```text
 //! let words = ["image", "sphere3.json", "r", "2,1,1"];
@@ -17,8 +17,8 @@
 //!
 //! Below it, `settled` makes the line of a refusal, and `work` goes from the words and the shelf to
 //! the bytes that are printed: `commands`, `coordinates` and `options` read the words, `source` finds
-//! the surface, `show`, `image` and `classify` are the commands, `line` writes the numbers of a vector;
-//! `answers` and `refusal` are the statuses and the refusals with their lines.
+//! the surface, `show`, `image`, `twist` and `classify` are the commands, `line` writes the numbers of
+//! a vector; `answers` and `refusal` are the statuses and the refusals with their lines.
 #![tactic(auto)]
 
 mod answers;
@@ -34,14 +34,19 @@ mod refusal;
 mod settled;
 mod show;
 mod source;
+mod twist;
 mod work;
 
 pub use answers::Status;
 pub use drawings::worked_drawings;
 pub use program::run;
-pub use refusal::{CoordinatesError, Refusal};
+pub use refusal::{CoordinatesError, Refusal, TwistFault};
 
+#[cfg(test)]
+mod classify_tests;
 #[cfg(test)]
 mod damaged_tests;
 #[cfg(test)]
 mod run_tests;
+#[cfg(test)]
+mod twist_tests;

@@ -28,8 +28,8 @@ struct Setting<'a> {
 const DIGIT_LIMIT: usize = 5;
 
 /// Whether the words are options that the program has, each at most once, with a number in its
-/// limit: `--powers N` or `--powers=N`, with N of 1 to 5 digits up to 1,024, and `--curves N` or
-/// `--curves=N`, with N up to 65,536.
+/// limit: `--powers N` or `--powers=N`, with N of 1 to 5 digits up to 1,024; `--curves N` or
+/// `--curves=N`, with N up to 65,536; and `--tracks N` or `--tracks=N`, with N up to 4,096.
 pub(crate) fn fits_options(words: &[String]) -> bool
     ensures { result ≡ is_some (budget_of (map string_bytes words.now)) }
 {
@@ -101,6 +101,7 @@ fn limit_of(name: &str) -> Option<u32>
     match name {
         "powers" => Some(1024),
         "curves" => Some(65_536),
+        "tracks" => Some(4096),
         _ => None,
     }
 }
@@ -127,9 +128,8 @@ fn number_of_digits(digits: &str) -> u32
     digits.parse::<u32>().unwrap_or(0)
 }
 
-/// The budget that the words give, which fit: 48 powers and 256 curves where they say nothing, and no
-/// tracks, for which there is no search yet. `clap` reads them, as the options of a command, and can
-/// fail for want of memory alone.
+/// The budget that the words give, which fit: 48 powers, 256 curves and 256 tracks where they say
+/// nothing. `clap` reads them, as the options of a command, and can fail for want of memory alone.
 pub(crate) fn read_options(alloc: Global, words: &[String]) -> Result<Budget, Memory>
     requires { is_some (budget_of (map string_bytes words.now)) ≡ true }
     ensures { IfOk result (λ budget.
@@ -141,7 +141,7 @@ pub(crate) fn read_options(alloc: Global, words: &[String]) -> Result<Budget, Me
     Ok(Budget {
         powers: number_or(&matches, "powers", 48),
         curves: number_or(&matches, "curves", 256),
-        tracks: 0,
+        tracks: number_or(&matches, "tracks", 256),
     })
 }
 
@@ -178,7 +178,8 @@ fn command<'a>(alloc: Global) -> Result<Command<'a>, AllocError>
     Command::new(alloc, "classify")
         .no_binary_name(true)
         .arg(option(alloc, "powers"))?
-        .arg(option(alloc, "curves"))
+        .arg(option(alloc, "curves"))?
+        .arg(option(alloc, "tracks"))
 }
 
 /// The option `--name` with one value.
@@ -197,11 +198,17 @@ mod tests {
     #[test]
     fn budgets(rt: HostRuntime) -> Result<(), Fail> {
         let alloc = rt.alloc();
-        for (line, powers, curves) in [
-            (&[][..], 48, 256),
-            (&["--powers", "0"][..], 0, 256),
-            (&["--curves=65536"][..], 48, 65_536),
-            (&["--curves", "007", "--powers=1024"][..], 1024, 7),
+        for (line, powers, curves, tracks) in [
+            (&[][..], 48, 256, 256),
+            (&["--powers", "0"][..], 0, 256, 256),
+            (&["--curves=65536"][..], 48, 65_536, 256),
+            (&["--tracks", "04096"][..], 48, 256, 4096),
+            (
+                &["--curves", "007", "--tracks=0", "--powers=1024"][..],
+                1024,
+                7,
+                0,
+            ),
         ] {
             let mut words = Vec::new(alloc);
             for word in line {
@@ -210,7 +217,7 @@ mod tests {
             let budget = Budget {
                 powers,
                 curves,
-                tracks: 0,
+                tracks,
             };
             assert!(rt; fits_options(&words));
             assert_eq!(rt; read_options(alloc, &words)?, budget);

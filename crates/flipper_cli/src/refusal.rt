@@ -3,14 +3,14 @@ ghost use Rattle.std.specs.Prelude.{◌≡◌, ◌++◌, codes, IfOk, OnOk, stri
 ghost use Rattle.flipper_cli.specs.ErrorTexts.{with_number, with_label, with_key, key_name};
 ghost use Rattle.flipper_cli.specs.ErrorTexts.{word_text, fault_text, surface_text};
 ghost use Rattle.flipper_cli.specs.RefusalLines.{coords_text, coordinates_text, overflow_text};
-ghost use Rattle.flipper_cli.specs.RefusalLines.{refusal_text, line_for};
+ghost use Rattle.flipper_cli.specs.RefusalLines.{twist_text, refusal_text, line_for};
 
 use crate::coordinates::NumbersError;
 use edge_coords::{CoordsError, OverflowAt};
 use flip_io::ReadError;
 use ideal_tri::Memory;
 use std::alloc::{AllocError, Global};
-use surface_lib::{BuiltinError, GeneratorFault, Key, SurfaceError, WordError};
+use surface_lib::{BuiltinError, GeneratorFault, Key, SurfaceError, TwistError, WordError};
 
 /// Why a text is not the coordinates of a multicurve: the first test that fails, in the order of
 /// the variants.
@@ -20,6 +20,20 @@ pub enum CoordinatesError {
     BadNumber(u64),
     /// The numbers are not the coordinates of a multicurve.
     Coords(CoordsError),
+}
+
+/// Why there is no Dehn twist about a multicurve: the first test that fails, in the order of the
+/// variants.
+#[derive(Clone, Copy, Debug, PartialEq, Eq)]
+pub enum TwistFault {
+    /// The multicurve crosses the edges so often in all: above 4,096.
+    TotalOver(u128),
+    /// The multicurve is not one curve.
+    NotOneCurve,
+    /// The curve runs round a vertex.
+    Peripheral,
+    /// The descent of the curve ends at this total, which is above 2.
+    Stuck(u128),
 }
 
 /// Why nothing is printed on the output.
@@ -39,6 +53,8 @@ pub enum Refusal {
     Word(WordError),
     /// The text is not the coordinates of a multicurve.
     Coordinates(CoordinatesError),
+    /// There is no Dehn twist about the multicurve.
+    Twist(TwistFault),
     /// A flip of the word gives a coordinate of 2^126 or more.
     Overflow(OverflowAt),
     /// No memory was found.
@@ -123,6 +139,23 @@ impl From<CoordsError> for Refusal {
 
     fn from(error: CoordsError) -> Refusal {
         Refusal::Coordinates(CoordinatesError::Coords(error))
+    }
+}
+
+impl From<TwistError> for Refusal {
+    ghost use Rattle.std.specs.Prelude.{◌≡◌};
+    ghost use Rattle.flipper_cli.specs.RefusalCauses.{for_twist};
+
+    ghost from_gives = { λ error refusal. refusal ≡ for_twist error };
+
+    fn from(error: TwistError) -> Refusal {
+        Refusal::Twist(match error {
+            TwistError::TotalOver { total } => TwistFault::TotalOver(total),
+            TwistError::NotOneCurve => TwistFault::NotOneCurve,
+            TwistError::Peripheral => TwistFault::Peripheral,
+            TwistError::Stuck { at } => TwistFault::Stuck(at.total()),
+            TwistError::Memory => return Refusal::Memory,
+        })
     }
 }
 
@@ -260,7 +293,6 @@ fn push_fault(line: &mut String, fault: GeneratorFault) -> Result<(), AllocError
         GeneratorFault::NotOneCurve => push_text(line, "NotOneCurve"),
         GeneratorFault::Peripheral => push_text(line, "Peripheral"),
         GeneratorFault::Stuck(n) => push_wide(line, "Stuck", n),
-        GeneratorFault::TwistsNotBuilt => push_text(line, "TwistsNotBuilt"),
         GeneratorFault::Word(error) => {
             push_text(line, "word ")?;
             push_word(line, error)
@@ -325,6 +357,17 @@ fn push_overflow(line: &mut String, overflow: OverflowAt) -> Result<(), AllocErr
     write!(line, "flip {flip} edge {edge} value {value}")
 }
 
+fn push_twist(line: &mut String, fault: TwistFault) -> Result<(), AllocError>
+    ensures { OnOk result (string_bytes line.new ≡ string_bytes line.old ++ twist_text fault) }
+{
+    match fault {
+        TwistFault::TotalOver(n) => push_wide(line, "TotalOver", n),
+        TwistFault::NotOneCurve => push_text(line, "NotOneCurve"),
+        TwistFault::Peripheral => push_text(line, "Peripheral"),
+        TwistFault::Stuck(n) => push_wide(line, "Stuck", n),
+    }
+}
+
 fn push_refusal(line: &mut String, refusal: Refusal) -> Result<(), AllocError>
     ensures { OnOk result (string_bytes line.new ≡ string_bytes line.old ++ refusal_text refusal) }
 {
@@ -344,6 +387,10 @@ fn push_refusal(line: &mut String, refusal: Refusal) -> Result<(), AllocError>
         Refusal::Coordinates(error) => {
             push_text(line, "coordinates ")?;
             push_coordinates(line, error)
+        }
+        Refusal::Twist(fault) => {
+            push_text(line, "twist ")?;
+            push_twist(line, fault)
         }
         Refusal::Overflow(overflow) => {
             push_text(line, "overflow ")?;
@@ -406,6 +453,10 @@ mod tests {
             (
                 Refusal::Coordinates(CoordinatesError::Coords(CoordsError::LongSide(10))),
                 "error: coordinates LongSide 10\n",
+            ),
+            (
+                Refusal::Twist(TwistFault::Stuck(10)),
+                "error: twist Stuck 10\n",
             ),
             (
                 Refusal::Overflow(overflow),

@@ -41,7 +41,7 @@ const BRACKETS: &str = "[[[[[[[[[[[[[[[[[[[[[[[[[[[[[[[[[[[[[[[[[[[[[[[[[[[[[[[[
 const NEVER: u64 = 0;
 
 /// Words, the status, what is printed on the output, and the line on the error stream.
-type Row<'a> = (&'a [&'a str], Status, &'a str, &'a str);
+pub(crate) type Row<'a> = (&'a [&'a str], Status, &'a str, &'a str);
 
 fn words_of(alloc: Global, texts: &[&str]) -> Result<Vec<String>, AllocError> {
     let mut words = Vec::new(alloc);
@@ -225,7 +225,7 @@ const READING: [Row; 17] = [
 ];
 
 /// Rows of calls that read no file that is there.
-const ROWS: [Row; 20] = [
+const ROWS: [Row; 21] = [
     (&[], Status::WordsRefused, "", "error: usage\n"),
     (&["image"], Status::WordsRefused, "", "error: usage\n"),
     (
@@ -259,6 +259,12 @@ const ROWS: [Row; 20] = [
         "",
     ),
     (
+        &["twist", "@S_0_4", "0,1,1,1,1,0", "plus"],
+        Status::Done,
+        "hand plus\ndown 1 2 3\nflip 4\nrelabel 0 -5 2 3 1 5\n",
+        "",
+    ),
+    (
         &["classify", "@S_1_1", "a.B"],
         Status::Done,
         "periodic 6\n{\"kind\":\"periodic\",\"order\":6,\"paths\":[[],[]],\"reasons\":[[1,-1],[1,-1],[1,-1],[1,-1],[1,-1]]}\n",
@@ -284,20 +290,36 @@ const ROWS: [Row; 20] = [
     ),
     (
         &[
-            "classify", "@S_1_1", "a.b", "--powers", "1", "--curves", "1",
+            "classify", "@S_1_1", "a.b", "--powers", "1", "--curves", "1", "--tracks", "0",
         ],
         Status::Done,
         "unknown\n{\"capped\":null,\"curves\":[\"moved\"],\"kind\":\"unknown\",\"powers\":[[1,-1]],\"tracks\":[]}\n",
         "",
     ),
     (
-        &["classify", "@S_1_1", "a", "--powers", "1", "--curves", "1"],
+        &[
+            "classify",
+            "@S_1_1",
+            "a",
+            "--powers",
+            "1",
+            "--curves",
+            "1",
+            "--tracks=00",
+        ],
         Status::Done,
         "unknown\n{\"capped\":null,\"curves\":[\"moved\"],\"kind\":\"unknown\",\"powers\":[[1,-1]],\"tracks\":[]}\n",
         "",
     ),
     (
-        &["classify", "@S_1_1", "a.B", "--powers=0000", "--curves=0"],
+        &[
+            "classify",
+            "@S_1_1",
+            "a.B",
+            "--powers=0000",
+            "--curves=0",
+            "--tracks=0",
+        ],
         Status::Done,
         "unknown\n{\"capped\":null,\"curves\":[],\"kind\":\"unknown\",\"powers\":[],\"tracks\":[]}\n",
         "",
@@ -411,7 +433,7 @@ fn run_surely(
 }
 
 /// The row holds over forms that never fail.
-fn check_sure(
+pub(crate) fn check_sure(
     rt: &(impl Abort + AllocGlobal),
     shelf: &mut SureShelf,
     row: Row,
@@ -420,7 +442,7 @@ fn check_sure(
     let (texts, status, printed, said) = row;
     let words = words_of(alloc, texts)?;
     let mut out = SureSink {
-        bytes: Vec::with_capacity(alloc, 250)?,
+        bytes: Vec::with_capacity(alloc, 400)?,
         dropped: false,
     };
     let mut err = SureSink {

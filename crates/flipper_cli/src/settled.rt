@@ -34,8 +34,11 @@ pub(crate) fn fixed_line(refusal: Refusal) -> Option<&'static str>
         Refusal::Failed => Some("error: shelf Failed\n"),
         Refusal::UnknownBuiltin => Some("error: surface UnknownBuiltin\n"),
         Refusal::Memory => Some("error: memory\n"),
-        Refusal::Surface(_) | Refusal::Word(_) | Refusal::Coordinates(_) | Refusal::Overflow(_) =>
-            None,
+        Refusal::Surface(_)
+        | Refusal::Word(_)
+        | Refusal::Coordinates(_)
+        | Refusal::Twist(_)
+        | Refusal::Overflow(_) => None,
     }
 }
 

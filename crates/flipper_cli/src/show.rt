@@ -35,7 +35,7 @@ fn push_name(lines: &mut String, name: &str) -> Result<(), Memory>
 }
 
 /// Writes a line of a word and a number.
-fn push_number(lines: &mut String, word: &str, number: u32) -> Result<(), Memory>
+pub(crate) fn push_number(lines: &mut String, word: &str, number: u32) -> Result<(), Memory>
     ensures { OnOk result (string_bytes lines.new
         ≡ string_bytes lines.old ++ number_line word.now number) }
 {

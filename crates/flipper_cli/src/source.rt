@@ -16,6 +16,7 @@ use crate::refusal::Refusal;
 use flip_io::{Shelf, read_all};
 use std::alloc::Global;
 use surface_lib::{Surface, builtin, read_surface};
+use twist_compile::Compiler;
 
 /// The most bytes of a surface file.
 const SURFACE_LIMIT: u64 = 1_048_576;
@@ -46,7 +47,8 @@ fn in_file<S: Shelf>(alloc: Global, shelf: &mut S, name: &str) -> Result<Surface
         → IsErrOf result Refusal.Absent → SameCounts (S.faults shelf.old) (S.faults shelf.new) }
 {
     let bytes = read_all(alloc, shelf, name, SURFACE_LIMIT)?;
-    Ok(read_surface(alloc, bytes.as_slice())?)
+    let mut compiler = Compiler;
+    Ok(read_surface(alloc, bytes.as_slice(), &mut compiler)?)
 }
 
 /// The surface that FILE stands for, of a file or built in.

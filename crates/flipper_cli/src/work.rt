@@ -20,6 +20,7 @@ use crate::image::image;
 use crate::refusal::Refusal;
 use crate::show::show;
 use crate::source::find;
+use crate::twist::twist;
 use flip_io::Shelf;
 use std::alloc::Global;
 use surface_lib::Surface;
@@ -30,7 +31,9 @@ fn source_of(command: Command<'_>) -> Source<'_>
 {
     match command {
         Command::Show { source } => source,
-        Command::Image { source, .. } | Command::Classify { source, .. } => source,
+        Command::Image { source, .. }
+        | Command::Twist { source, .. }
+        | Command::Classify { source, .. } => source,
     }
 }
 
@@ -51,6 +54,11 @@ fn about(alloc: Global, s: &mut Surface, command: Command) -> Result<Vec<u8>, Re
             coordinates,
             ..
         } => image(alloc, s, word, coordinates),
+        Command::Twist {
+            coordinates,
+            hand,
+            ..
+        } => twist(alloc, s, coordinates, hand),
         Command::Classify { word, options, .. } => classify(alloc, s, word, options),
     }
 }

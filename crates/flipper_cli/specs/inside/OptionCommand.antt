@@ -13,6 +13,7 @@ abbrev pub option_names : List Text
 option_names =
     codes "powers"
     ∷ codes "curves"
+    ∷ codes "tracks"
     ∷ []
 
 -- a command without options, whose words have no program's name in front

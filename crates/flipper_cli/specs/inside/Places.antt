@@ -4,13 +4,14 @@ use Rattle.std.specs.declared.alloc.Global.{Global}
 use Rattle.flipper_cli.specs.RefusalLines.{line_for}
 use Rattle.flipper_cli.specs.declared.refusal.Refusal.{Refusal}
 use Rattle.flipper_cli.specs.declared.refusal.Refusal.TheVariants.{Surface, Word, Coordinates}
-use Rattle.flipper_cli.specs.declared.refusal.Refusal.TheVariants.{Overflow, Memory}
+use Rattle.flipper_cli.specs.declared.refusal.Refusal.TheVariants.{Twist, Overflow, Memory}
 use Rattle.flipper_cli.specs.declared.settled.Settled.{Settled}
 
 abbrev pub HasPlace : Refusal → Type 0
 HasPlace (Surface _) = Unit {0}
 HasPlace (Word _) = Unit {0}
 HasPlace (Coordinates _) = Unit {0}
+HasPlace (Twist _) = Unit {0}
 HasPlace (Overflow _) = Unit {0}
 HasPlace _ = ⊥
 

@@ -1,11 +1,11 @@
 -- The source and the command that the code reads, as the definitions see them.
 use Rattle.std.specs.Prelude.{◌≡◌, List, ℕ, Some, map, string_bytes, unwrap_or}
 use Rattle.verdict_plan.specs.declared.budget.Budget.{Budget}
-use Rattle.flipper_cli.specs.Commands.{file, builtin, show, image, classify}
+use Rattle.flipper_cli.specs.Commands.{file, builtin, show, image, twist, classify}
 use Rattle.flipper_cli.specs.Commands.{Source as SourceOfWords, Command as CommandOfWords}
 use Rattle.flipper_cli.specs.Options.{budget_of}
 use Rattle.flipper_cli.specs.declared.commands.Command.{Command}
-use Rattle.flipper_cli.specs.declared.commands.Command.TheVariants.{Show, Image, Classify}
+use Rattle.flipper_cli.specs.declared.commands.Command.TheVariants.{Show, Image, Twist, Classify}
 use Rattle.flipper_cli.specs.declared.commands.Source.{Source}
 use Rattle.flipper_cli.specs.declared.commands.Source.TheVariants.{File, Builtin}
 
@@ -20,6 +20,7 @@ budget_given options = unwrap_or (budget_of options) (record { powers = 0; curve
 abbrev pub seen : Command → CommandOfWords
 seen (Show source) = show (seen_source source)
 seen (Image source word coordinates) = image (seen_source source) word.now coordinates.now
+seen (Twist source coordinates hand) = twist (seen_source source) coordinates.now hand
 seen (Classify source word options) =
     classify (seen_source source) word.now (budget_given (map string_bytes options.now))
 

@@ -12,4 +12,5 @@ returns c =
     ap (λ (o : Option (List ℕ)). option_map_or (digits_value 10) o otherwise) (c.in-Ok.ensures.found name some.0 some.1.cut) in
     let powers = c.number_or.ensures ∙ number (codes "powers") 48 in
     let curves = c.number_or-2.ensures ∙ number (codes "curves") 256 in
+    let tracks = c.number_or-3.ensures ∙ number (codes "tracks") 256 in
     budget_by words some.0 some.1 ∙ cc

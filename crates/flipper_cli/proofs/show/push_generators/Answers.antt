@@ -9,8 +9,8 @@ loop-name-init c = record {
   next = tt;
   finite = tt;
   left =
-      ap (λ (z : List ℕ). z ++ spaced c.into_iter-name-iterator.result) c.in_ok-push_str.ensures.bytes
-      ∙ ap (λ (z : List (String Global)). (string_bytes c.args.lines.now ++ codes "generators") ++ spaced z)
+      ap (λ (z : List ℕ). z ++ spaced string_bytes c.into_iter-name-iterator.result) c.in_ok-push_str.ensures.bytes
+      ∙ ap (λ (z : List (String Global)). (string_bytes c.args.lines.now ++ codes "generators") ++ spaced string_bytes z)
       (c.into_iter-name-iterator.ensures.into_iter_gives ∙ c.keys-name-items.ensures.rest);
 }
 
@@ -19,7 +19,7 @@ loop-name-preserved c = record {
   next = tt;
   finite = tt;
   left =
-      spaced_on _ _ _ _ _ c.in-Some.ensures.steps c.in_ok-write.ensures.bytes
+      spaced_on string_bytes _ _ _ _ _ c.in-Some.ensures.steps c.in_ok-write.ensures.bytes
       ∙ c.loop-name.invariant.left;
 }
 
@@ -28,7 +28,7 @@ returns c =
     let pushed = c.in_ok-push.ensures in
     let start = string_bytes c.args.lines.now in
     let text = string_bytes c.loop-name.lines in
-    let ended = sym (ap (λ (z : List (String Global)). text ++ spaced z) c.in-None.ensures.steps.0)
+    let ended = sym (ap (λ (z : List (String Global)). text ++ spaced string_bytes z) c.in-None.ensures.steps.0)
     ∙ c.loop-name.invariant.left
     ∙ ap (λ (z : List ℕ). (start ++ codes "generators") ++ z)
     (spaced_keys c.args.s.now.atlas c.args.s.now.generators.entries) in

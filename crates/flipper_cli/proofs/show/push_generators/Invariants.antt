@@ -8,6 +8,6 @@ abbrev pub invariant-loop-name : goal.invariant-loop-name
 invariant-loop-name l = record {
   next : (goal.iterator-loop-name).can_next l.name-iterator;
   finite : (goal.iterator-loop-name).is_finite l.name-iterator;
-  left : string_bytes l.lines ++ spaced l.name-iterator
-      ≡ (string_bytes l.fn.lines ++ codes "generators") ++ spaced (keys_of l.s.generators.entries);
+  left : string_bytes l.lines ++ spaced string_bytes l.name-iterator
+      ≡ (string_bytes l.fn.lines ++ codes "generators") ++ spaced string_bytes (keys_of l.s.generators.entries);
 }
