@@ -15,8 +15,17 @@ use Rattle.tri_atlas.specs.Arena.{Arena, MoveHandle, IsArena, triangulation, sou
 use Rattle.tri_atlas.specs.Paths.{Lead, triangle_along}
 use Rattle.free_groupoid.specs.GroupoidMaps.{GroupoidMap, IsMapIn, substitution, vertex_image, reduced_image, followed}
 use Rattle.free_groupoid.specs.GroupoidMaps.{followed_along}
+use Rattle.free_groupoid.specs.MapRefusals.{StaysWithin}
 use Rattle.free_groupoid.proofs.Substituting.{substitution-mapped, substitution-reduced}
 use Rattle.free_groupoid.proofs.MapsIn.{followed_in}
+
+-- a map that stays within the cap along moves, and then along others
+pub StaysWithin-append : (arena : Arena) (f : GroupoidMap) (first second : List MoveHandle) (cap : ℕ)
+    → StaysWithin arena f first cap → StaysWithin arena (followed_along arena f first) second cap
+    → StaysWithin arena f (first ++ second) cap
+StaysWithin-append arena f [] second cap here on = on
+StaysWithin-append arena f (m ∷ first) second cap here on =
+    (here.0, StaysWithin-append arena (followed arena f m) first second cap here.1 on)
 
 module _ (labels : LabelLaws) (words : WordLaws) (surface : SurfaceLaws) (mapping : MapLaws) (atlas : AtlasLaws) where
   -- ---- letter by letter

@@ -1,5 +1,6 @@
 -- What the calls find of the map of a path, move by move, is true of what the moves do: its letters, the bound on them
--- after each move, the walks by which it is inner, and the first test walk that it moves.
+-- after each move, the first move after which there are too many, the walks by which it is inner, and the first test
+-- walk that it moves.
 --
 -- Label by label the map that the calls make is that of the moves, and what is found asks at labels alone.
 use Rattle.std.proofs.Common.{ℕ, zero, suc, ℤ, pos, List, [], ◌∷◌, ◌≡◌, ◌+◌, ◌<◌, ◌≤◌, refl, sym, ◌∙◌, ap, subst}
@@ -11,23 +12,24 @@ use Rattle.std.proofs.lemmas.List.FromFn.{length-range_with_len, length-map-rang
 use Rattle.ideal_tri.specs.Words.{IsReduced, cyclic_reduce, IsRotation}
 use Rattle.ideal_tri.specs.SurfaceLaws.{SurfaceLaws}
 use Rattle.ideal_tri.specs.Triangulations.{IsTriangulation, IsLabel, edge_count, triangle_of}
-use Rattle.tri_atlas.specs.Arena.{Arena, MoveHandle, IsArena, IsTriIn, triangulation, target_of, step_of}
+use Rattle.tri_atlas.specs.Arena.{Arena, MoveHandle, IsArena, triangulation, step_of}
 use Rattle.tri_atlas.specs.AtlasLaws.{AtlasLaws}
 use Rattle.tri_atlas.specs.MapLaws.{SubstitutionLaws}
 use Rattle.tri_atlas.specs.Maps.{IsMap, letters_below, letters_of, path_map}
 use Rattle.tri_atlas.specs.Moves.{Move}
-use Rattle.tri_atlas.specs.Paths.{MovePath, IsPathIn, Lead, moves_of, triangle_along}
+use Rattle.tri_atlas.specs.Paths.{MovePath, IsPathIn, moves_of, triangle_along}
 use Rattle.free_groupoid.specs.GroupoidLaws.{GroupoidLaws}
 use Rattle.free_groupoid.specs.GroupoidMaps.{GroupoidMap, substitution, vertex_image, letters_in, identity_map}
 use Rattle.free_groupoid.specs.GroupoidMaps.{followed, followed_along}
 use Rattle.free_groupoid.specs.Inner.{IsKept}
 use Rattle.free_groupoid.specs.InnerAnswers.{AreInnerPaths, IsFirstMoved}
 use Rattle.free_groupoid.specs.InnerLaws.{InnerLaws, IsReducedLoop}
-use Rattle.free_groupoid.specs.MapRefusals.{StaysWithin}
-use Rattle.free_groupoid.specs.Periodic.{AreInnerWalks, IsFirstTest, IsWithin}
+use Rattle.free_groupoid.specs.MapRefusals.{StaysWithin, IsPathRefusal, told}
+use Rattle.free_groupoid.specs.Periodic.{AreInnerWalks, IsFirstPast, IsFirstTest, IsWithin}
 use Rattle.free_groupoid.specs.PeriodicLaws.{FoundLaws, map_along}
 use Rattle.free_groupoid.specs.TestWalks.{test_walks}
 use Rattle.free_groupoid.specs.Walks.{DualWalk, walk_at}
+use Rattle.free_groupoid.specs.declared.map.MapError.TheVariants.{CapPassed}
 use Rattle.free_groupoid.proofs.Along.{along_many}
 use Rattle.free_groupoid.proofs.InnerPowers.{inner_same}
 use Rattle.free_groupoid.proofs.Known.{Known}
@@ -62,16 +64,6 @@ stays_within arena f (m ∷ moves) cap stays zero more = stays.0
 stays_within arena f (m ∷ moves) cap stays (suc made) more =
     stays_within arena (followed arena f m) moves cap stays.1 made (omega arith)
 
--- they are those of a path of the atlas
-first_moves : AtlasLaws → (arena : Arena) → IsArena arena → (s t : ℕ) (moves : List MoveHandle) (n : ℕ)
-    → IsTriIn arena s → Lead arena s moves t → (end : ℕ) × IsTriIn arena end × Lead arena s (take n moves) end
-first_moves atlas arena sound s t moves zero here lead = (s, here, refl)
-first_moves atlas arena sound s t [] (suc n) here lead = (s, here, refl)
-first_moves atlas arena sound s t (m ∷ moves) (suc n) here lead =
-    let ends = atlas.handles.ends arena m sound lead.0 in
-    let (end, there, rest) = first_moves atlas arena sound (target_of arena m) t moves n ends.1 lead.2 in
-    (end, there, (lead.0, lead.1, rest))
-
 module _ (known : Known) (surface : SurfaceLaws) (atlas : AtlasLaws) (groupoid : GroupoidLaws) (arena : Arena)
     (sound : IsArena arena) where
   -- ---- letters
@@ -90,22 +82,55 @@ module _ (known : Known) (surface : SurfaceLaws) (atlas : AtlasLaws) (groupoid :
       ∙ letters_agree (edge_count triples) (substitution images) (path_map (moves_of arena path))
       (λ k below. groupoid.images.path arena path (pos k) sound p below)
 
+  -- after the first moves, which are those of a path
+  letters_begun : (path : MovePath) (i : ℕ) → IsPathIn arena path
+      → letters_in (followed_along arena (identity_map arena path.start) (take i path.moves)).images
+      ≡ letters_of (triangulation arena path.start) (path_map (take i (moves_of arena path)))
+  letters_begun path i p =
+      let (end, part) = atlas.ways.beginning arena path i sound p in
+      letters_along (record { start = path.start; end = end; moves = take i path.moves }) part
+      ∙ ap (λ (moves : List Move). letters_of (triangulation arena path.start) (path_map moves))
+      (sym (take-map (step_of arena) i path.moves))
+
   letters_within : (path : MovePath) (cap : ℕ) → IsPathIn arena path
       → StaysWithin arena (identity_map arena path.start) path.moves cap
       → IsWithin (triangulation arena path.start) (moves_of arena path) cap
   letters_within path cap p stays made more =
       let inside : made < length path.moves =
       subst (λ (n : ℕ). made < n) (length-map path.moves (step_of arena)) more in
-      let (end, there, lead) =
-      first_moves atlas arena sound path.start path.end path.moves (made + 1) p.start_in p.moves_lead in
-      let part : MovePath = record { start = path.start; end = end; moves = take (made + 1) path.moves } in
-      let part_in : IsPathIn arena part = record { start_in = p.start_in; end_in = there; moves_lead = lead } in
-      let bound : letters_in (map_along arena part).images ≤ cap =
+      let bound : letters_in (followed_along arena (identity_map arena path.start) (take (made + 1) path.moves)).images
+      ≤ cap =
       subst (λ (n : ℕ). letters_in (followed_along arena (identity_map arena path.start) (take n path.moves)).images ≤ cap)
       (sym (add-one made)) (stays_within arena (identity_map arena path.start) path.moves cap stays made inside) in
-      subst (λ (moves : List Move). letters_of (triangulation arena path.start) (path_map moves) ≤ cap)
-      (sym (take-map (step_of arena) (made + 1) path.moves))
-      (subst (λ (n : ℕ). n ≤ cap) (letters_along part part_in) bound)
+      subst (λ (n : ℕ). n ≤ cap) (letters_begun path (made + 1) p) bound
+
+  -- ---- the first move past the cap
+
+  within_begun : (path : MovePath) (i cap : ℕ) → IsPathIn arena path
+      → StaysWithin arena (identity_map arena path.start) (take i path.moves) cap
+      → IsWithin (triangulation arena path.start) (take i (moves_of arena path)) cap
+  within_begun path i cap p stays =
+      let (end, part) = atlas.ways.beginning arena path i sound p in
+      subst (λ (moves : List Move). IsWithin (triangulation arena path.start) moves cap)
+      (sym (take-map (step_of arena) i path.moves))
+      (letters_within (record { start = path.start; end = end; moves = take i path.moves }) cap part stays)
+
+  first_past : (path : MovePath) (new : GroupoidMap) (cap letters : ℕ) → IsPathIn arena path
+      → IsPathRefusal arena (identity_map arena path.start) new path.moves cap (CapPassed letters)
+      → (made : ℕ) × IsFirstPast (triangulation arena path.start) (moves_of arena path) cap made letters
+  first_past path new cap letters p (made, more, stays, is_new, past) =
+      let same : letters_in new.images
+      ≡ letters_of (triangulation arena path.start) (path_map (take (made + 1) (moves_of arena path))) =
+      ap (λ (f : GroupoidMap). letters_in f.images) is_new ∙ letters_begun path (made + 1) p in
+      let long : length (moves_of arena path) ≡ length path.moves = length-map path.moves (step_of arena) in (
+        made,
+        record {
+          more_moves = omega (arith, long);
+          before = within_begun path made cap p stays;
+          past = subst (λ (n : ℕ). cap < n) same past.more;
+          number = past.number ∙ ap told same;
+        },
+      )
 
   -- ---- a path that ends where it starts
 
@@ -189,8 +214,11 @@ module _ (known : Known) (surface : SurfaceLaws) (atlas : AtlasLaws) (groupoid :
 
 pub found_laws : Known → SurfaceLaws → AtlasLaws → GroupoidLaws → InnerLaws → FoundLaws
 found_laws known surface atlas groupoid test = record {
+  along = groupoid.along;
   letters = λ arena path sound. letters_along known surface atlas groupoid arena sound path;
   within = λ arena path cap sound. letters_within known surface atlas groupoid arena sound path cap;
+  past = λ arena path new cap letters sound.
+      first_past known surface atlas groupoid arena sound path new cap letters;
   inner = λ arena path paths sound p closed.
       inner_walks known surface atlas groupoid arena sound path p closed paths;
   moved = λ arena path w sound p closed.

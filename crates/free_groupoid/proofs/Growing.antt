@@ -25,17 +25,17 @@ use Rattle.free_groupoid.proofs.NodeTurns.{turn_past}
 module _ (triples : List (List ℤ)) (glue : Glued triples) (r bound : ℕ) (n : Node) (done : List Node) where
   -- ---- a side whose other triangle is new
 
-  turn_new : (todo : List Node) (x : ℤ) (sides : List ℤ) → IsTurning triples r bound n done todo (x ∷ sides)
-      → has_node (done ++ todo) (triangle_of triples (inverse x)) ≡ false
-      → IsTurning triples r bound n done (todo ++ (node_beyond triples n x ∷ [])) sides
-  turn_new todo x sides g h = record {
-    forest = subst (IsForest triples) regroup (sprouted_forest triples glue (done ++ todo) g.forest n x is_open least);
+  turn_new : (queue : List Node) (x : ℤ) (sides : List ℤ) → IsTurning triples r bound n done queue (x ∷ sides)
+      → has_node (done ++ queue) (triangle_of triples (inverse x)) ≡ false
+      → IsTurning triples r bound n done (queue ++ (node_beyond triples n x ∷ [])) sides
+  turn_new queue x sides g h = record {
+    forest = subst (IsForest triples) regroup (sprouted_forest triples glue (done ++ queue) g.forest n x is_open least);
     here = g.here;
     mine = g.mine;
     closed = λ m k. still_closed m (g.closed m k);
     tried = λ y label at. still_tried y (g.tried y label at);
     left = λ y k. g.left y (member_later x sides y k);
-    waiting = λ m k. waits m (Contains-push_cases todo new m k);
+    waiting = λ m k. waits m (Contains-push_cases queue new m k);
     below = λ i k. reached i (g.below i k);
     root = reached r g.root;
     few =
@@ -43,8 +43,8 @@ module _ (triples : List (List ℤ)) (glue : Glued triples) (r bound : ℕ) (n :
           arith,
           g.few,
           ap (missing (length triples)) regroup,
-          length-append todo (new ∷ []),
-          missing-new (length triples) (done ++ todo) new
+          length-append queue (new ∷ []),
+          missing-new (length triples) (done ++ queue) new
               (glue.triangles.triangle (inverse x) (glue.known.labels.label triples x side.0)) h,
         );
   }
@@ -53,60 +53,60 @@ module _ (triples : List (List ℤ)) (glue : Glued triples) (r bound : ℕ) (n :
       new = node_beyond triples n x
 
       more : List Node
-      more = done ++ (todo ++ (new ∷ []))
+      more = done ++ (queue ++ (new ∷ []))
 
-      regroup : (done ++ todo) ++ (new ∷ []) ≡ more
-      regroup = append_assoc done todo (new ∷ [])
+      regroup : (done ++ queue) ++ (new ∷ []) ≡ more
+      regroup = append_assoc done queue (new ∷ [])
 
       side : IsLabel triples x × (triangle_of triples x ≡ n.triangle)
       side = g.left x (member_here x sides)
 
-      is_open : IsOpen triples (done ++ todo) n x
-      is_open = record { there = Contains-append_left done todo n g.here; label = side.0; at = side.1; new = h }
+      is_open : IsOpen triples (done ++ queue) n x
+      is_open = record { there = Contains-append_left done queue n g.here; label = side.0; at = side.1; new = h }
 
       -- all triangles below the root are reached
       least : n.root ≤ triangle_of triples (inverse x)
       least =
           elim (cases_lt (triangle_of triples (inverse x)) r) [
             | inl lower ↦
-                absurd (both_ways (has_node (done ++ todo) (triangle_of triples (inverse x))) h
+                absurd (both_ways (has_node (done ++ queue) (triangle_of triples (inverse x))) h
                 (g.below (triangle_of triples (inverse x)) lower))
             | inr above ↦ omega (arith, above, g.mine)
           ]
 
-      into : (m : Node) → Contains (done ++ todo) m → Contains more m
-      into m k = subst (λ (ms : List Node). Contains ms m) regroup (Contains-append_left (done ++ todo) (new ∷ []) m k)
+      into : (m : Node) → Contains (done ++ queue) m → Contains more m
+      into m k = subst (λ (ms : List Node). Contains ms m) regroup (Contains-append_left (done ++ queue) (new ∷ []) m k)
 
-      reached : (i : ℕ) → has_node (done ++ todo) i ≡ true → has_node more i ≡ true
-      reached i k = ap (λ (ms : List Node). has_node ms i) (sym regroup) ∙ still_reached (done ++ todo) new i k
+      reached : (i : ℕ) → has_node (done ++ queue) i ≡ true → has_node more i ≡ true
+      reached i k = ap (λ (ms : List Node). has_node ms i) (sym regroup) ∙ still_reached (done ++ queue) new i k
 
-      still_closed : (m : Node) → (m ≡ n) ⊎ IsClosed triples (done ++ todo) m → (m ≡ n) ⊎ IsClosed triples more m
+      still_closed : (m : Node) → (m ≡ n) ⊎ IsClosed triples (done ++ queue) m → (m ≡ n) ⊎ IsClosed triples more m
       still_closed m (inl e) = inl e
-      still_closed m (inr c) = inr (closed_more triples (done ++ todo) more m into c)
+      still_closed m (inr c) = inr (closed_more triples (done ++ queue) more m into c)
 
-      still_tried : (y : ℤ) → Contains (x ∷ sides) y ⊎ IsBeyond triples (done ++ todo) n y
+      still_tried : (y : ℤ) → Contains (x ∷ sides) y ⊎ IsBeyond triples (done ++ queue) n y
           → Contains sides y ⊎ IsBeyond triples more n y
-      still_tried y (inr b) = inr (beyond_more triples (done ++ todo) more n y into b)
+      still_tried y (inr b) = inr (beyond_more triples (done ++ queue) more n y into b)
       still_tried y (inl k) =
           elim (member_cases x sides y k) [
             | inl e ↦
                 inr (record {
                   node = new;
-                  there = subst (λ (ms : List Node). Contains ms new) regroup (Contains-push (done ++ todo) new);
+                  there = subst (λ (ms : List Node). Contains ms new) regroup (Contains-push (done ++ queue) new);
                   at = ap (λ (z : ℤ). triangle_of triples (inverse z)) e;
                   root = refl;
                 })
             | inr later ↦ inl later
           ]
 
-      waits : (m : Node) → Contains todo m ⊎ (new ≡ m) → m.root ≡ r
+      waits : (m : Node) → Contains queue m ⊎ (new ≡ m) → m.root ≡ r
       waits m (inl k) = g.waiting m k
       waits m (inr e) = ap (λ (k : Node). k.root) (sym e) ∙ g.mine
 
   -- ---- the whole turn
 
-  turned : (todo : List Node) → IsTurning triples r bound n done todo [] → IsGrowing triples r bound done todo
-  turned todo g = record {
+  turned : (queue : List Node) → IsTurning triples r bound n done queue [] → IsGrowing triples r bound done queue
+  turned queue g = record {
     forest = g.forest;
     closed = λ m k. go m (g.closed m k);
     waiting = g.waiting;
@@ -115,33 +115,33 @@ module _ (triples : List (List ℤ)) (glue : Glued triples) (r bound : ℕ) (n :
     few = g.few;
   }
     where
-      beyond : (x : ℤ) → Contains [] x ⊎ IsBeyond triples (done ++ todo) n x → IsBeyond triples (done ++ todo) n x
+      beyond : (x : ℤ) → Contains [] x ⊎ IsBeyond triples (done ++ queue) n x → IsBeyond triples (done ++ queue) n x
       beyond x (inl k) = absurd (no_member x k)
       beyond x (inr b) = b
 
-      go : (m : Node) → (m ≡ n) ⊎ IsClosed triples (done ++ todo) m → IsClosed triples (done ++ todo) m
+      go : (m : Node) → (m ≡ n) ⊎ IsClosed triples (done ++ queue) m → IsClosed triples (done ++ queue) m
       go m (inl e) =
-          subst (IsClosed triples (done ++ todo)) (sym e)
+          subst (IsClosed triples (done ++ queue)) (sym e)
           (record { beyond = λ x label at. beyond x (g.tried x label at) })
       go m (inr c) = c
 
-  pub turn : (sides : List ℤ) (todo : List Node) → IsTurning triples r bound n done todo sides
-      → IsGrowing triples r bound done (sprout triples n sides done todo)
-  turn [] todo g = turned todo g
-  turn (x ∷ sides) todo g =
-      elim (cases_Bool (has_node (done ++ todo) (triangle_of triples (inverse x)))) [
+  pub turn : (sides : List ℤ) (queue : List Node) → IsTurning triples r bound n done queue sides
+      → IsGrowing triples r bound done (sprout triples n sides done queue)
+  turn [] queue g = turned queue g
+  turn (x ∷ sides) queue g =
+      elim (cases_Bool (has_node (done ++ queue) (triangle_of triples (inverse x)))) [
         | inl h ↦
             subst (IsGrowing triples r bound done)
-            (sym (cond-true (has_node (done ++ todo) (triangle_of triples (inverse x))) past new h))
-            (turn sides todo (turn_past triples glue r bound n done todo x sides g h))
+            (sym (cond-true (has_node (done ++ queue) (triangle_of triples (inverse x))) past new h))
+            (turn sides queue (turn_past triples glue r bound n done queue x sides g h))
         | inr h ↦
             subst (IsGrowing triples r bound done)
-            (sym (cond-false (has_node (done ++ todo) (triangle_of triples (inverse x))) past new h))
-            (turn sides (todo ++ (node_beyond triples n x ∷ [])) (turn_new todo x sides g h))
+            (sym (cond-false (has_node (done ++ queue) (triangle_of triples (inverse x))) past new h))
+            (turn sides (queue ++ (node_beyond triples n x ∷ [])) (turn_new queue x sides g h))
       ]
     where
       past : List Node
-      past = sprout triples n sides done todo
+      past = sprout triples n sides done queue
 
       new : List Node
-      new = sprout triples n sides done (todo ++ (node_beyond triples n x ∷ []))
+      new = sprout triples n sides done (queue ++ (node_beyond triples n x ∷ []))

@@ -26,29 +26,29 @@ pub record IsBeyond (triples : List (List ℤ)) (nodes : List Node) (n : Node) (
 pub record IsClosed (triples : List (List ℤ)) (nodes : List Node) (n : Node) : Type 0 where
   pub beyond : (x : ℤ) → IsLabel triples x → triangle_of triples x ≡ n.triangle → IsBeyond triples nodes n x
 
--- a tree from r grows: the nodes of done had their turn, those of todo wait
-pub record IsGrowing (triples : List (List ℤ)) (r bound : ℕ) (done todo : List Node) : Type 0 where
-  pub forest : IsForest triples (done ++ todo)
-  pub closed : (n : Node) → Contains done n → IsClosed triples (done ++ todo) n
-  pub waiting : (n : Node) → Contains todo n → n.root ≡ r
-  pub below : (t : ℕ) → t < r → has_node (done ++ todo) t ≡ true
-  pub root : has_node (done ++ todo) r ≡ true
-  pub few : missing (length triples) (done ++ todo) + length todo ≤ bound
+-- a tree from r grows: the nodes of done had their turn, those of the queue wait
+pub record IsGrowing (triples : List (List ℤ)) (r bound : ℕ) (done queue : List Node) : Type 0 where
+  pub forest : IsForest triples (done ++ queue)
+  pub closed : (n : Node) → Contains done n → IsClosed triples (done ++ queue) n
+  pub waiting : (n : Node) → Contains queue n → n.root ≡ r
+  pub below : (t : ℕ) → t < r → has_node (done ++ queue) t ≡ true
+  pub root : has_node (done ++ queue) r ≡ true
+  pub few : missing (length triples) (done ++ queue) + length queue ≤ bound
 
 -- the node n has its turn, and of its sides these are still to be tried
-pub record IsTurning (triples : List (List ℤ)) (r bound : ℕ) (n : Node) (done todo : List Node) (sides : List ℤ) : Type
+pub record IsTurning (triples : List (List ℤ)) (r bound : ℕ) (n : Node) (done queue : List Node) (sides : List ℤ) : Type
     0 where
-  pub forest : IsForest triples (done ++ todo)
+  pub forest : IsForest triples (done ++ queue)
   pub here : Contains done n
   pub mine : n.root ≡ r
-  pub closed : (m : Node) → Contains done m → (m ≡ n) ⊎ IsClosed triples (done ++ todo) m
+  pub closed : (m : Node) → Contains done m → (m ≡ n) ⊎ IsClosed triples (done ++ queue) m
   pub tried : (x : ℤ) → IsLabel triples x → triangle_of triples x ≡ n.triangle
-      → Contains sides x ⊎ IsBeyond triples (done ++ todo) n x
+      → Contains sides x ⊎ IsBeyond triples (done ++ queue) n x
   pub left : (x : ℤ) → Contains sides x → IsLabel triples x × (triangle_of triples x ≡ n.triangle)
-  pub waiting : (m : Node) → Contains todo m → m.root ≡ r
-  pub below : (t : ℕ) → t < r → has_node (done ++ todo) t ≡ true
-  pub root : has_node (done ++ todo) r ≡ true
-  pub few : missing (length triples) (done ++ todo) + length todo ≤ bound
+  pub waiting : (m : Node) → Contains queue m → m.root ≡ r
+  pub below : (t : ℕ) → t < r → has_node (done ++ queue) t ≡ true
+  pub root : has_node (done ++ queue) r ≡ true
+  pub few : missing (length triples) (done ++ queue) + length queue ≤ bound
 
 -- what is beyond stays there where nodes are added
 pub beyond_more : (triples : List (List ℤ)) (nodes more : List Node) (n : Node) (x : ℤ)
@@ -66,24 +66,24 @@ closed_more triples nodes more n into c =
 module _ (triples : List (List ℤ)) (glue : Glued triples) (r bound : ℕ) (n : Node) (done : List Node) where
   -- ---- a side whose other triangle is reached
 
-  reached_beyond : (todo : List Node) (x : ℤ) (sides : List ℤ) → IsTurning triples r bound n done todo (x ∷ sides)
-      → has_node (done ++ todo) (triangle_of triples (inverse x)) ≡ true → IsBeyond triples (done ++ todo) n x
-  reached_beyond todo x sides g h =
-      let (m, there, at) = reaching_node (done ++ todo) (triangle_of triples (inverse x)) h in
-      record { node = m; there = there; at = at; root = same_root m at (Contains-append_cases done todo m there) }
+  reached_beyond : (queue : List Node) (x : ℤ) (sides : List ℤ) → IsTurning triples r bound n done queue (x ∷ sides)
+      → has_node (done ++ queue) (triangle_of triples (inverse x)) ≡ true → IsBeyond triples (done ++ queue) n x
+  reached_beyond queue x sides g h =
+      let (m, there, at) = reaching_node (done ++ queue) (triangle_of triples (inverse x)) h in
+      record { node = m; there = there; at = at; root = same_root m at (Contains-append_cases done queue m there) }
     where
       side : IsLabel triples x × (triangle_of triples x ≡ n.triangle)
       side = g.left x (member_here x sides)
 
       -- back across x there is n
-      back : (m : Node) → IsBeyond triples (done ++ todo) m (inverse x) → m.root ≡ n.root
+      back : (m : Node) → IsBeyond triples (done ++ queue) m (inverse x) → m.root ≡ n.root
       back m b =
           sym b.root
           ∙ ap (λ (k : Node). k.root)
-          (g.forest.one b.node n b.there (Contains-append_left done todo n g.here)
+          (g.forest.one b.node n b.there (Contains-append_left done queue n g.here)
           (b.at ∙ ap (triangle_of triples) (glue.known.labels.twice x) ∙ side.1))
 
-      same_root : (m : Node) → m.triangle ≡ triangle_of triples (inverse x) → Contains done m ⊎ Contains todo m
+      same_root : (m : Node) → m.triangle ≡ triangle_of triples (inverse x) → Contains done m ⊎ Contains queue m
           → m.root ≡ n.root
       same_root m at (inr waits) = g.waiting m waits ∙ sym g.mine
       same_root m at (inl had) =
@@ -92,9 +92,9 @@ module _ (triples : List (List ℤ)) (glue : Glued triples) (r bound : ℕ) (n :
             | inr c ↦ back m (c.beyond (inverse x) (glue.known.labels.label triples x side.0) (sym at))
           ]
 
-  pub turn_past : (todo : List Node) (x : ℤ) (sides : List ℤ) → IsTurning triples r bound n done todo (x ∷ sides)
-      → has_node (done ++ todo) (triangle_of triples (inverse x)) ≡ true → IsTurning triples r bound n done todo sides
-  turn_past todo x sides g h = record {
+  pub turn_past : (queue : List Node) (x : ℤ) (sides : List ℤ) → IsTurning triples r bound n done queue (x ∷ sides)
+      → has_node (done ++ queue) (triangle_of triples (inverse x)) ≡ true → IsTurning triples r bound n done queue sides
+  turn_past queue x sides g h = record {
     forest = g.forest;
     here = g.here;
     mine = g.mine;
@@ -107,11 +107,11 @@ module _ (triples : List (List ℤ)) (glue : Glued triples) (r bound : ℕ) (n :
     few = g.few;
   }
     where
-      go : (y : ℤ) → Contains (x ∷ sides) y ⊎ IsBeyond triples (done ++ todo) n y
-          → Contains sides y ⊎ IsBeyond triples (done ++ todo) n y
+      go : (y : ℤ) → Contains (x ∷ sides) y ⊎ IsBeyond triples (done ++ queue) n y
+          → Contains sides y ⊎ IsBeyond triples (done ++ queue) n y
       go y (inr b) = inr b
       go y (inl k) =
           elim (member_cases x sides y k) [
-            | inl e ↦ inr (subst (IsBeyond triples (done ++ todo) n) e (reached_beyond todo x sides g h))
+            | inl e ↦ inr (subst (IsBeyond triples (done ++ queue) n) e (reached_beyond queue x sides g h))
             | inr later ↦ inl later
           ]

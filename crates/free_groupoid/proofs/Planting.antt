@@ -47,39 +47,39 @@ module _ (triples : List (List ℤ)) (glue : Glued triples) where
           ]
 
   -- the first node that waits has its turn
-  begin_turn : (r bound : ℕ) (done : List Node) (n : Node) (todo : List Node)
-      → IsGrowing triples r (suc bound) done (n ∷ todo)
-      → IsTurning triples r bound n (done ++ (n ∷ [])) todo (sides_in_order triples n.triangle)
-  begin_turn r bound done n todo g = record {
+  begin_turn : (r bound : ℕ) (done : List Node) (n : Node) (queue : List Node)
+      → IsGrowing triples r (suc bound) done (n ∷ queue)
+      → IsTurning triples r bound n (done ++ (n ∷ [])) queue (sides_in_order triples n.triangle)
+  begin_turn r bound done n queue g = record {
     forest = subst (IsForest triples) regroup g.forest;
     here = Contains-push done n;
-    mine = g.waiting n (member_here n todo);
+    mine = g.waiting n (member_here n queue);
     closed = λ m k. go m (Contains-push_cases done n m k);
     tried = λ x label at. inl (side_in_order triples n.triangle x label at);
     left = λ x k. in_order_side triples n.triangle x k;
-    waiting = λ m k. g.waiting m (member_later n todo m k);
+    waiting = λ m k. g.waiting m (member_later n queue m k);
     below = λ i k. ap (λ (ms : List Node). has_node ms i) (sym regroup) ∙ g.below i k;
     root = ap (λ (ms : List Node). has_node ms r) (sym regroup) ∙ g.root;
     few = omega (arith, g.few, ap (missing (length triples)) regroup);
   }
     where
-      regroup : done ++ (n ∷ todo) ≡ (done ++ (n ∷ [])) ++ todo
-      regroup = sym (append_assoc done (n ∷ []) todo)
+      regroup : done ++ (n ∷ queue) ≡ (done ++ (n ∷ [])) ++ queue
+      regroup = sym (append_assoc done (n ∷ []) queue)
 
-      go : (m : Node) → Contains done m ⊎ (n ≡ m) → (m ≡ n) ⊎ IsClosed triples ((done ++ (n ∷ [])) ++ todo) m
+      go : (m : Node) → Contains done m ⊎ (n ≡ m) → (m ≡ n) ⊎ IsClosed triples ((done ++ (n ∷ [])) ++ queue) m
       go m (inl k) = inr (subst (λ (ms : List Node). IsClosed triples ms m) regroup (g.closed m k))
       go m (inr e) = inl (sym e)
 
-  grown : (r bound : ℕ) (done todo : List Node) → IsGrowing triples r bound done todo
-      → IsGrown triples (suc r) (grow triples bound done todo)
+  grown : (r bound : ℕ) (done queue : List Node) → IsGrowing triples r bound done queue
+      → IsGrown triples (suc r) (grow triples bound done queue)
   grown r zero done [] g =
       subst (IsGrown triples (suc r)) (sym (append-nil done)) (all_done r zero done g)
-  grown r zero done (n ∷ todo) g = absurd (omega (arith, g.few))
+  grown r zero done (n ∷ queue) g = absurd (omega (arith, g.few))
   grown r (suc bound) done [] g = all_done r (suc bound) done g
-  grown r (suc bound) done (n ∷ todo) g =
-      grown r bound (done ++ (n ∷ [])) (sprout triples n (sides_in_order triples n.triangle) (done ++ (n ∷ [])) todo)
-      (turn triples glue r bound n (done ++ (n ∷ [])) (sides_in_order triples n.triangle) todo
-      (begin_turn r bound done n todo g))
+  grown r (suc bound) done (n ∷ queue) g =
+      grown r bound (done ++ (n ∷ [])) (sprout triples n (sides_in_order triples n.triangle) (done ++ (n ∷ [])) queue)
+      (turn triples glue r bound n (done ++ (n ∷ [])) (sides_in_order triples n.triangle) queue
+      (begin_turn r bound done n queue g))
 
   -- ---- all trees
 

@@ -18,20 +18,20 @@ use Rattle.free_groupoid.specs.inside.Sprouting.{tried, tried_each}
 
 module _ (triples : List (List ℤ)) (n : Node) where
   -- to try the sides among these labels is to try each of the labels
-  pub sprout_tried : (labels : List ℤ) (done todo : List Node)
-      → done ++ sprout triples n (filter (λ x. nat_eq (triangle_of triples x) n.triangle) labels) done todo
-      ≡ tried_each triples n labels (done ++ todo)
-  sprout_tried [] done todo = refl
-  sprout_tried (x ∷ labels) done todo =
+  pub sprout_tried : (labels : List ℤ) (done queue : List Node)
+      → done ++ sprout triples n (filter (λ x. nat_eq (triangle_of triples x) n.triangle) labels) done queue
+      ≡ tried_each triples n labels (done ++ queue)
+  sprout_tried [] done queue = refl
+  sprout_tried (x ∷ labels) done queue =
       elim (cases_Bool (nat_eq (triangle_of triples x) n.triangle)) [
-        | inr other ↦ (rw (other) (sprout_tried labels done todo))
+        | inr other ↦ (rw (other) (sprout_tried labels done queue))
         | inl side ↦
-            elim (cases_Bool (has_node (done ++ todo) (triangle_of triples (inverse x)))) [
-              | inl reached ↦ (rw (side, reached) (sprout_tried labels done todo))
+            elim (cases_Bool (has_node (done ++ queue) (triangle_of triples (inverse x)))) [
+              | inl reached ↦ (rw (side, reached) (sprout_tried labels done queue))
               | inr new ↦
                   (rw (side, new)
-                  (sprout_tried labels done (todo ++ (node_beyond triples n x ∷ []))
-                  ∙ ap (tried_each triples n labels) (sym (append_assoc done todo (node_beyond triples n x ∷ [])))))
+                  (sprout_tried labels done (queue ++ (node_beyond triples n x ∷ []))
+                  ∙ ap (tried_each triples n labels) (sym (append_assoc done queue (node_beyond triples n x ∷ [])))))
             ]
       ]
 
@@ -51,19 +51,19 @@ module _ (triples : List (List ℤ)) (n : Node) where
       (ap (λ (i : ℕ). tried_each triples n (flat_map (λ i. pos i ∷ (negsuc i ∷ [])) (range_with_len e i)) nodes) (sym
       left) ∙ so_far)
 
-  pub tried_all : (old nodes done todo : List Node) (e : ℕ) (m : Node) → edge_count triples ≤ e
+  pub tried_all : (old nodes done queue : List Node) (e : ℕ) (m : Node) → edge_count triples ≤ e
       → IsTrying old e nodes → n ≡ m
-      → old ≡ done ++ m ∷ todo
-      → nodes ≡ (done ++ m ∷ []) ++ sprout triples m (sides_in_order triples m.triangle) (done ++ m ∷ []) todo
-  tried_all old nodes done todo e m all so_far same is_old =
+      → old ≡ done ++ m ∷ queue
+      → nodes ≡ (done ++ m ∷ []) ++ sprout triples m (sides_in_order triples m.triangle) (done ++ m ∷ []) queue
+  tried_all old nodes done queue e m all so_far same is_old =
       let none : edge_count triples - e ≡ 0 = omega arith in
       rw (← same)
       (ap (λ (i : ℕ). tried_each triples n (flat_map (λ i. pos i ∷ (negsuc i ∷ [])) (range_with_len e i)) nodes) (sym
       none)
       ∙ so_far
       ∙ ap (tried_each triples n (label_order triples))
-      (is_old ∙ ap (λ (k : Node). done ++ k ∷ todo) (sym same) ∙ sym (append_assoc done (n ∷ []) todo))
-      ∙ sym (sprout_tried (label_order triples) (done ++ n ∷ []) todo))
+      (is_old ∙ ap (λ (k : Node). done ++ k ∷ queue) (sym same) ∙ sym (append_assoc done (n ∷ []) queue))
+      ∙ sym (sprout_tried (label_order triples) (done ++ n ∷ []) queue))
 
 -- ---- turns
 
@@ -86,32 +86,32 @@ module _ (triples : List (List ℤ)) where
 
   pub grown_more : (old nodes new : List Node) (t k : ℕ) → IsGrown old t nodes k → k < length triples
       → length old + k < length nodes
-      → ((done todo : List Node) (n : Node) → nodes ≡ done ++ n ∷ todo → length done ≡ length old + k
-      → new ≡ (done ++ n ∷ []) ++ sprout triples n (sides_in_order triples n.triangle) (done ++ n ∷ []) todo)
+      → ((done queue : List Node) (n : Node) → nodes ≡ done ++ n ∷ queue → length done ≡ length old + k
+      → new ≡ (done ++ n ∷ []) ++ sprout triples n (sides_in_order triples n.triangle) (done ++ n ∷ []) queue)
       → IsGrown old t new (k + 1)
   grown_more old nodes new t k so_far inside there turned =
       let i : ℕ = length old + k in
       let n : Node = get_or nodes (length old + k) (root_node t) in
       let done : List Node = take (length old + k) nodes in
-      let todo : List Node = drop (length old + k + 1) nodes in
-      let rest : drop i nodes ≡ n ∷ todo = drop_more nodes (length old + k) (root_node t) there in
+      let queue : List Node = drop (length old + k + 1) nodes in
+      let rest : drop i nodes ≡ n ∷ queue = drop_more nodes (length old + k) (root_node t) there in
       let long : length done ≡ i = length-take-le (length old + k) nodes (omega arith) in
-      let is_new : new ≡ (done ++ n ∷ []) ++ sprout triples n (sides_in_order triples n.triangle) (done ++ n ∷ []) todo
+      let is_new : new ≡ (done ++ n ∷ []) ++ sprout triples n (sides_in_order triples n.triangle) (done ++ n ∷ []) queue
       =
-      turned done todo n (sym (take-append-drop i nodes) ∙ ap (λ (ns : List Node). done ++ ns) rest) long in
+      turned done queue n (sym (take-append-drop i nodes) ∙ ap (λ (ns : List Node). done ++ ns) rest) long in
       let place : length (done ++ n ∷ []) ≡ length old + (k + 1) = length_push done n ∙ omega arith in
       let left : length triples - k ≡ suc (length triples - (k + 1)) = omega arith in
       ap (λ (ns : List Node). grow triples (length triples - (k + 1)) (take (length old + (k + 1)) ns) (drop (length
       old + (k + 1)) ns)) is_new
       ∙ ap (λ (ns : List Node). grow triples (length triples - (k + 1)) ns
       (drop (length old + (k + 1)) ((done ++ n ∷ []) ++ sprout triples n (sides_in_order triples n.triangle) (done ++ n
-      ∷ []) todo)))
-      (take_at (done ++ n ∷ []) (sprout triples n (sides_in_order triples n.triangle) (done ++ n ∷ []) todo) (length
+      ∷ []) queue)))
+      (take_at (done ++ n ∷ []) (sprout triples n (sides_in_order triples n.triangle) (done ++ n ∷ []) queue) (length
       old + (k + 1)) place)
       ∙ ap (grow triples (length triples - (k + 1)) (done ++ n ∷ []))
-      (drop_at (done ++ n ∷ []) (sprout triples n (sides_in_order triples n.triangle) (done ++ n ∷ []) todo) (length
+      (drop_at (done ++ n ∷ []) (sprout triples n (sides_in_order triples n.triangle) (done ++ n ∷ []) queue) (length
       old + (k + 1)) place)
-      ∙ ap (λ (b : ℕ). grow triples b done (n ∷ todo)) (sym left)
+      ∙ ap (λ (b : ℕ). grow triples b done (n ∷ queue)) (sym left)
       ∙ ap (grow triples (length triples - k) done) (sym rest)
       ∙ so_far
 
@@ -157,10 +157,10 @@ ends_across_last e (y ∷ w) x some is_x = ap (λ (z : ℤ). nat_eq (edge_of z) 
     ∙ last_read y w x)
 
 -- the node that was read
-pub node_there : (nodes done todo : List Node) (i : ℕ) (m n : Node) → nodes ≡ done ++ n ∷ todo → length done ≡ i
+pub node_there : (nodes done queue : List Node) (i : ℕ) (m n : Node) → nodes ≡ done ++ n ∷ queue → length done ≡ i
     → m ≡ get_or nodes i m → m ≡ n
-node_there nodes done todo i m n is_nodes here is_m = is_m ∙ ap (λ (ns : List Node). get_or ns i m) is_nodes
-    ∙ get_or_at done n todo m i here
+node_there nodes done queue i m n is_nodes here is_m = is_m ∙ ap (λ (ns : List Node). get_or ns i m) is_nodes
+    ∙ get_or_at done n queue m i here
 
 -- ---- trees
 

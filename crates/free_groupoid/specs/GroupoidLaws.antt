@@ -4,11 +4,12 @@ use Rattle.ideal_tri.specs.Triangulations.{IsLabel}
 use Rattle.tri_atlas.specs.Maps.{IsOdd, after, image_of_letter, path_map}
 use Rattle.tri_atlas.specs.Arena.{Arena, MoveHandle, IsTriIn, IsMoveIn, IsArena, triangulation}
 use Rattle.tri_atlas.specs.Arena.{source_of, step_of}
-use Rattle.tri_atlas.specs.Paths.{MovePath, IsPathIn, moves_of, triangle_along, inverse_path}
+use Rattle.tri_atlas.specs.Paths.{MovePath, Lead, IsPathIn, moves_of, triangle_along, inverse_path}
 use Rattle.free_groupoid.specs.Walks.{DualWalk, IsWalkOn}
 use Rattle.free_groupoid.specs.GroupoidMaps.{GroupoidMap, IsMapIn, substitution, vertex_image}
 use Rattle.free_groupoid.specs.GroupoidMaps.{identity_map, followed, followed_along, composed}
 use Rattle.free_groupoid.specs.GroupoidMaps.{image_walk}
+use Rattle.free_groupoid.specs.MapRefusals.{StaysWithin}
 
 -- the maps that the calls make are maps of the atlas
 pub record MakingLaws : Type 0 where
@@ -62,8 +63,23 @@ pub record ActionLaws : Type 0 where
       → IsMapIn arena f → IsPathIn arena path → path.start ≡ f.target
       → followed_along arena f (path.moves ++ (inverse_path path).moves) ≡ f
 
+-- maps followed along moves and then others
+pub record AlongLaws : Type 0 where
+  pub along : (arena : Arena) (f : GroupoidMap) (first second : List MoveHandle)
+      → followed_along arena f (first ++ second)
+      ≡ followed_along arena (followed_along arena f first) second
+  pub within : (arena : Arena) (f : GroupoidMap) (first second : List MoveHandle) (cap : ℕ)
+      → StaysWithin arena f first cap
+      → StaysWithin arena (followed_along arena f first) second cap
+      → StaysWithin arena f (first ++ second) cap
+  pub source : (arena : Arena) (f : GroupoidMap) (moves : List MoveHandle)
+      → (followed_along arena f moves).source ≡ f.source
+  pub target : (arena : Arena) (f : GroupoidMap) (moves : List MoveHandle) (t : ℕ)
+      → Lead arena f.target moves t → (followed_along arena f moves).target ≡ t
+
 -- all of them
 pub record GroupoidLaws : Type 0 where
   pub making : MakingLaws
   pub images : ImageLaws
   pub action : ActionLaws
+  pub along : AlongLaws

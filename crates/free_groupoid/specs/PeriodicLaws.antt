@@ -6,14 +6,16 @@ use Rattle.tri_atlas.specs.Arena.{Arena, IsArena, triangulation}
 use Rattle.tri_atlas.specs.Maps.{letters_of, path_map}
 use Rattle.tri_atlas.specs.Moves.{Move, ArePath}
 use Rattle.tri_atlas.specs.Paths.{MovePath, IsPathIn, moves_of}
+use Rattle.free_groupoid.specs.GroupoidLaws.{AlongLaws}
 use Rattle.free_groupoid.specs.GroupoidMaps.{GroupoidMap, followed_along, identity_map, letters_in}
 use Rattle.free_groupoid.specs.Inner.{IsKept}
 use Rattle.free_groupoid.specs.InnerAnswers.{AreInnerPaths, IsFirstMoved}
 use Rattle.free_groupoid.specs.InnerLaws.{IsReducedLoop}
-use Rattle.free_groupoid.specs.MapRefusals.{StaysWithin}
-use Rattle.free_groupoid.specs.Periodic.{AreInnerWalks, IsFirstTest, IsInnerPath, IsPeriodic}
-use Rattle.free_groupoid.specs.Periodic.{IsWithin}
+use Rattle.free_groupoid.specs.MapRefusals.{StaysWithin, IsPathRefusal}
+use Rattle.free_groupoid.specs.Periodic.{AreInnerWalks, IsFirstPast, IsFirstTest, IsInnerPath}
+use Rattle.free_groupoid.specs.Periodic.{IsPeriodic, IsWithin}
 use Rattle.free_groupoid.specs.Walks.{DualWalk}
+use Rattle.free_groupoid.specs.declared.map.MapError.TheVariants.{CapPassed}
 
 -- inner powers: by one list of reduced walks alone; an inner map keeps closed walks, so that a
 -- closed walk that is moved rules a power out
@@ -33,14 +35,21 @@ pub record PeriodicLaws : Type 0 where
 abbrev pub map_along : Arena → MovePath → GroupoidMap
 map_along arena path = followed_along arena (identity_map arena path.start) path.moves
 
--- what the calls find of it is true of what the moves do
+-- maps followed along moves; and what the calls find of the map of a path is true of what the moves
+-- do
 pub record FoundLaws : Type 0 where
+  pub along : AlongLaws
   pub letters : (arena : Arena) (path : MovePath) → IsArena arena → IsPathIn arena path
       → letters_in (map_along arena path).images
       ≡ letters_of (triangulation arena path.start) (path_map (moves_of arena path))
   pub within : (arena : Arena) (path : MovePath) (cap : ℕ) → IsArena arena → IsPathIn arena path
       → StaysWithin arena (identity_map arena path.start) path.moves cap
       → IsWithin (triangulation arena path.start) (moves_of arena path) cap
+  pub past : (arena : Arena) (path : MovePath) (new : GroupoidMap) (cap letters : ℕ)
+      → IsArena arena → IsPathIn arena path
+      → IsPathRefusal arena (identity_map arena path.start) new path.moves cap (CapPassed letters)
+      → (made : ℕ)
+      × IsFirstPast (triangulation arena path.start) (moves_of arena path) cap made letters
   pub inner : (arena : Arena) (path : MovePath) (paths : List DualWalk) → IsArena arena
       → IsPathIn arena path → path.end ≡ path.start
       → AreInnerPaths (triangulation arena path.start) (map_along arena path) paths

@@ -42,19 +42,19 @@ sides_in_order triples t = filter (λ x. nat_eq (triangle_of triples x) t) (labe
 -- the waiting nodes, and behind them a node beyond each side of n, tried in order, whose other
 -- triangle is new
 abbrev pub sprout : List (List ℤ) → Node → List ℤ → List Node → List Node → List Node
-sprout triples n [] done todo = todo
-sprout triples n (x ∷ sides) done todo =
-    if has_node (done ++ todo) (triangle_of triples (inverse x))
-    then sprout triples n sides done todo
-    else sprout triples n sides done (todo ++ (node_beyond triples n x ∷ []))
+sprout triples n [] done queue = queue
+sprout triples n (x ∷ sides) done queue =
+    if has_node (done ++ queue) (triangle_of triples (inverse x))
+    then sprout triples n sides done queue
+    else sprout triples n sides done (queue ++ (node_beyond triples n x ∷ []))
 
 -- breadth first: of the waiting nodes the first has its turn, at most as often as the bound says
 abbrev pub grow : List (List ℤ) → ℕ → List Node → List Node → List Node
-grow triples zero done todo = done ++ todo
+grow triples zero done queue = done ++ queue
 grow triples (suc bound) done [] = done
-grow triples (suc bound) done (n ∷ todo) =
+grow triples (suc bound) done (n ∷ queue) =
     grow triples bound (done ++ (n ∷ []))
-    (sprout triples n (sides_in_order triples n.triangle) (done ++ (n ∷ [])) todo)
+    (sprout triples n (sides_in_order triples n.triangle) (done ++ (n ∷ [])) queue)
 
 -- a tree from each of the triangles that is new when it comes
 abbrev pub plant : List (List ℤ) → List ℕ → List Node → List Node

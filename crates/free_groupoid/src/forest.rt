@@ -152,10 +152,10 @@ fn grow(alloc: Global, tri: &Tri, t: u32, nodes: &mut Vec<Node>) -> Result<(), M
 /// Puts nodes beyond the sides of the node with this number where the triangles there are new.
 fn sprout(alloc: Global, tri: &Tri, i: usize, nodes: &mut Vec<Node>) -> Result<(), Memory>
     requires { i < length nodes.old.items }
-    ensures { OnOk result ((done todo : List Node) (n : Node)
-        → nodes.old.items ≡ done ++ n ∷ todo → length done ≡ i
+    ensures { OnOk result ((done queue : List Node) (n : Node)
+        → nodes.old.items ≡ done ++ n ∷ queue → length done ≡ i
         → nodes.new.items ≡ (done ++ n ∷ []) ++ sprout tri.now n (sides_in_order tri.now
-        n.triangle) (done ++ n ∷ []) todo) }
+        n.triangle) (done ++ n ∷ []) queue) }
 {
     let node = nodes[i].copy(alloc)?;
     for e in 0..tri.edges() {

@@ -80,7 +80,7 @@ module _ (ts : List (List ℤ)) (out : List ℤ) (labels : LabelLaws) (triangles
       go true = list.branch p.branch [] within
       go false = inverse_branch ts out labels triangles single (get_or bs p.branch []) (list.branch p.branch [] within)
 
-  long_branch : (b : List ℤ) → IsBranch ts out b → 2 ≤ length b
+  pub long_branch : (b : List ℤ) → IsBranch ts out b → 2 ≤ length b
   long_branch b h =
       let g : Begun ts out b = begun ts out labels triangles single b h in
       subst (λ (w : List ℤ). 2 ≤ length w) (sym g.is)

@@ -11,5 +11,6 @@ pub mod LegalWalks
 pub mod FreeCorners
 pub mod Made
 pub mod CutLegal
+pub mod SettledPasses
 pub mod TrackTheory
 pub mod WorkedTorus

@@ -20,6 +20,7 @@ use Rattle.train_track.proofs.Grown.{turn_apart}
 use Rattle.train_track.proofs.Listed.{one_listed, not_two_listed}
 use Rattle.train_track.proofs.CutLegal.{pass_of, cut}
 use Rattle.train_track.proofs.LegalWalks.{walk_labels}
+use Rattle.train_track.proofs.SettledPasses.{only_passes}
 
 -- passes glued to the front part, and to the rest from its last letter on
 glued_joined : (bs : List (List ℤ)) (x : ℤ) (first second : List Pass) (u v : List ℤ) → AreGlued bs x first u
@@ -112,6 +113,7 @@ module _ (labels : LabelLaws) (surface : SurfaceLaws) (ts : List (List ℤ)) (ou
         (cut ts out labels laws_of single bs list (length (h.second ∷ h.rest)) h.first (h.second ∷ h.rest) (omega arith)
         (subst (All (IsLabel ts)) h.letters (walk_labels ts w.start w.letters h.walk.end h.walk.leads)) h.begins
         (subst (IsLegal ts out) h.letters h.legal) h.ends);
+    only = only_passes ts out labels laws_of single bs list;
     join = glued_joined bs;
   }
 

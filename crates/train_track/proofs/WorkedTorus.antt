@@ -1,6 +1,6 @@
 -- A worked track on the once-punctured torus. With the corners 2 and -3 left out, one in each triangle, its one switch
 -- is 1, and its branches are 1 -1 1 and 1 -3 1. The walk 1 -3 1 -1 1 passes both.
-use Rattle.std.proofs.Common.{ℤ, pos, negsuc, Bool, true, List, [], ◌∷◌, ◌≡◌, refl, ◌∙◌, ap}
+use Rattle.std.proofs.Common.{ℤ, pos, negsuc, true, List, [], ◌∷◌, ◌≡◌, refl, ◌∙◌, ap}
 use Rattle.free_groupoid.specs.Walks.{DualWalk, IsWalkOn}
 use Rattle.train_track.specs.Tracks.{is_left_out, is_fork, is_switch, switches_of}
 use Rattle.train_track.specs.Branches.{are_before}

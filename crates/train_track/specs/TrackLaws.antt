@@ -53,6 +53,9 @@ pub record ListLaws (triples : List (List ℤ)) (left_out : List ℤ) (branches 
   -- a legal walk from a switch to a switch is glued from passes
   pub passes : (w : DualWalk) → IsFromSwitchToSwitch triples left_out w
       → (passes : List Pass) × ArePassesOf branches passes w.letters
+  -- and from one list of passes alone
+  pub only : (x : ℤ) (first second : List Pass) (w : List ℤ) → AreGlued branches x first w
+      → AreGlued branches x second w → first ≡ second
   -- passes of walks that are joined at a letter follow each other
   pub join : (x : ℤ) (first second : List Pass) (u v : List ℤ) → AreGlued branches x first u
       → AreGlued branches (last_of x u) second v → AreGlued branches x (first ++ second) (u ++ v)

@@ -1,11 +1,12 @@
--- Powers of a matrix.
-use Rattle.std.proofs.Common.{◌≡◌, ◌≢◌, ◌<◌, ◌≤◌, ◌+◌, ◌*◌, ◌⊎◌, inl, inr, ℕ, zero, suc, List, length, true, false}
+-- Powers of a matrix: the first, where positive entries of any stand, and those that are positive altogether.
+use Rattle.std.proofs.Common.{◌≡◌, ◌≢◌, ◌<◌, ◌≤◌, ◌*◌, inl, inr, ℕ, zero, suc}
 use Rattle.std.proofs.Common.{Bool, refl, sym, ◌∙◌, ap, subst, arith}
 use Rattle.std.specs.Prelude.{if◌then◌else◌, nat_eq}
 use Rattle.std.proofs.lemmas.Bool.{cases_eq, eq-eqb, ne_eqb}
 use Rattle.transition_matrix.specs.Matrices.{Square, entry, sum_below, power, IsPositivePower}
 use Rattle.transition_matrix.specs.MatrixLaws.{RespectsClasses}
-use Rattle.transition_matrix.proofs.Sums.{sum_below-one, positive_term, positive_left, positive_right}
+use Rattle.transition_matrix.proofs.Sums.{sum_below-one, sum_below-part, positive_term, positive_product}
+use Rattle.transition_matrix.proofs.Sums.{positive_left, positive_right}
 
 -- ---- the first power
 
@@ -56,3 +57,30 @@ pub no_positive_power : (m : Square) (class goes : ℕ → ℕ) (i j k : ℕ) �
 no_positive_power m class goes i j k respects row other apart some positive =
     apart (power_respects m class goes k i j respects row other (positive i j row other)
     ∙ sym (power_respects m class goes k j j respects other other (positive j j other other)))
+
+-- ---- positive powers
+
+-- a column of a positive power isn't zero in the matrix: the last factor of a positive product is an entry of it
+positive_column : (m : Square) (k j : ℕ) → j < m.size → IsPositivePower m (suc k)
+    → (l : ℕ) × (l < m.size) × (0 < entry m l j)
+positive_column m k j column positive =
+    let found = positive_term m.size (λ l. power m k j l * entry m l j) (positive j j column column) in
+    (found.0, found.1, positive_right _ _ found.2)
+
+positive_next : (m : Square) (k : ℕ) → 0 < k → IsPositivePower m k → IsPositivePower m (suc k)
+positive_next m zero some positive i j row column = absurd (omega arith)
+positive_next m (suc k) some positive i j row column =
+    let (l, low, entry_some) = positive_column m k j column positive in
+    let f : ℕ → ℕ = λ r. power m (suc k) i r * entry m r j in
+    let term : 0 < f l = positive_product (power m (suc k) i l) (entry m l j) (positive i l row low) entry_some in
+    let part : f l ≤ sum_below m.size f = sum_below-part m.size l f low in
+    omega (arith, term, part)
+
+pub positive_later : (m : Square) (k l : ℕ) → 0 < k → k ≤ l → IsPositivePower m k → IsPositivePower m l
+positive_later m k zero some later positive i j row column = absurd (omega arith)
+positive_later m k (suc l) some later positive i j row column = elim (cases_eq k (suc l)) [
+  | inl e ↦ let P : ℕ → Type 0 = λ n. IsPositivePower m n in subst P e positive i j row column
+  | inr apart ↦
+      let before : IsPositivePower m l = positive_later m k l some (omega arith) positive in
+      positive_next m l (omega arith) before i j row column
+]

@@ -14,6 +14,8 @@ pub record MatrixLaws : Type 0 where
   -- a matrix that respects classes has no positive power, where there are two classes
   pub classes : (m : Square) (class goes : ℕ → ℕ) (i j k : ℕ) → RespectsClasses m class goes
       → i < m.size → j < m.size → class i ≢ class j → 0 < k → ¬ IsPositivePower m k
+  -- once a power is positive, so are all later ones
+  pub more : (m : Square) (k l : ℕ) → 0 < k → k ≤ l → IsPositivePower m k → IsPositivePower m l
 
 -- sums of terms
 pub record SumLaws : Type 0 where

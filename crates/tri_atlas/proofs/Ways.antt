@@ -8,8 +8,9 @@
 -- map of walks from the start to the end, and triangles go along with it: the map of a move says where a triangle goes
 -- across it, and along the path it goes across each move in turn. Back along the path the moves are undone from the
 -- last to the first, and a move undone brings each triangle back; so does the whole path.
-use Rattle.std.proofs.Common.{◌≡◌, ◌∙◌, ◌<◌, ◌++◌, [], ◌∷◌, ℕ, ℤ, Bool, true, false, List, refl, sym, ap, subst, length}
-use Rattle.std.proofs.Common.{map, reverse}
+use Rattle.std.proofs.Common.{◌≡◌, ◌∙◌, ◌<◌, ◌++◌, [], ◌∷◌, ℕ, zero, suc, ℤ, Bool, true, false, List, refl, sym, ap, subst}
+use Rattle.std.proofs.Common.{length, map, reverse, take}
+use Rattle.std.specs.List.{repeat}
 use Rattle.std.proofs.lemmas.List.{map-append, reverse-append}
 use Rattle.tri_atlas.specs.Moves.{Move, IsMove, ArePath, back_of, triangle_image}
 use Rattle.tri_atlas.specs.Maps.{identity, after, image_of_letter, path_map, IsMap}
@@ -19,7 +20,7 @@ use Rattle.tri_atlas.specs.Arena.{back, IsTriIn, IsMoveIn, IsArena}
 use Rattle.tri_atlas.specs.Paths.{MovePath, Lead, IsPathIn, moves_of, triangle_across, triangle_along}
 use Rattle.tri_atlas.specs.AtlasLaws.{HandleLaws, WayLaws}
 use Rattle.tri_atlas.proofs.Arenas.{ends_in, leads}
-use Rattle.tri_atlas.proofs.AtlasPaths.{source_of-back, target_of-back}
+use Rattle.tri_atlas.proofs.AtlasPaths.{source_of-back, target_of-back, lead_join}
 use Rattle.tri_atlas.proofs.Repeats.{repeat_laws, map-repeat}
 use Rattle.tri_atlas.proofs.WalkMaps.{IsMap-same}
 
@@ -94,6 +95,28 @@ moves_back laws arena s t (m ∷ moves) h (here, at, rest) =
     (step_of-back laws arena m h here)
     ∙ sym (reverse-append (back_of (step_of arena m) ∷ []) (map back_of (map (step_of arena) moves)))
 
+-- the first of the moves lead somewhere
+first_lead : (arena : Arena) (s t : ℕ) (i : ℕ) (moves : List MoveHandle) → IsArena arena → IsTriIn arena s
+    → Lead arena s moves t → (end : ℕ) × IsTriIn arena end × Lead arena s (take i moves) end
+first_lead arena s t zero moves h start l = (s, start, refl)
+first_lead arena s t (suc i) [] h start l = (s, start, refl)
+first_lead arena s t (suc i) (m ∷ moves) h start (here, at, rest) =
+    let (end, there, on) = first_lead arena (target_of arena m) t i moves h (ends_in arena m h here).1 rest in
+    (end, there, (here, at, on))
+
+beginning : (arena : Arena) (path : MovePath) (i : ℕ) → IsArena arena → IsPathIn arena path
+    → (end : ℕ) × IsPathIn arena (record { start = path.start; end = end; moves = take i path.moves })
+beginning arena path i h p =
+    let (end, there, on) = first_lead arena path.start path.end i path.moves h p.start_in p.moves_lead in
+    (end, record { start_in = p.start_in; end_in = there; moves_lead = on })
+
+-- and moves that lead back lead back several times
+lead_often : (arena : Arena) (s n : ℕ) (moves : List MoveHandle) → Lead arena s moves s
+    → Lead arena s (repeat n moves) s
+lead_often arena s zero moves once = refl
+lead_often arena s (suc n) moves once =
+    lead_join arena s s s moves (repeat n moves) once (lead_often arena s n moves once)
+
 -- ---- maps of paths
 
 -- where triangles go along moves that follow others
@@ -154,6 +177,14 @@ pub way_laws : MapLaws → WayLaws
 way_laws laws = record {
   leads = λ arena path h p. moves_lead laws.moves arena path.start path.end path.moves h p.moves_lead;
   join = λ arena path other. map-append (step_of arena) path.moves other.moves;
+  beginning = beginning;
+  often = λ arena path n h p closed. record {
+    start_in = p.start_in;
+    end_in = p.start_in;
+    moves_lead = lead_often arena path.start n path.moves
+        (subst (λ (z : ℕ). Lead arena path.start path.moves z) closed p.moves_lead);
+  };
+  repeats = repeat_laws Move;
   back = λ arena path h p. moves_back laws.moves arena path.start path.end path.moves h p.moves_lead;
   maps = maps;
   walks = λ arena path s t w h p walk.

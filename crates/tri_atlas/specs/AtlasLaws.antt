@@ -1,9 +1,9 @@
 -- What holds of atlases as they grow, of their moves, and of their paths.
-use Rattle.std.specs.Prelude.{◌≡◌, ◌<◌, ℕ, ℤ, List, ◌++◌, length, map}
+use Rattle.std.specs.Prelude.{◌≡◌, ◌<◌, ℕ, ℤ, List, ◌++◌, length, map, take}
 use Rattle.std.specs.List.{flat_map, repeat}
 use Rattle.ideal_tri.specs.Words.{reduce}
 use Rattle.ideal_tri.specs.Triangulations.{IsWalk}
-use Rattle.tri_atlas.specs.Moves.{IsMove, ArePath, back_of, back_along}
+use Rattle.tri_atlas.specs.Moves.{Move, IsMove, ArePath, back_of, back_along}
 use Rattle.tri_atlas.specs.Maps.{IsMap, image_of_letter, path_map}
 use Rattle.tri_atlas.specs.MapLaws.{RepeatLaws}
 use Rattle.tri_atlas.specs.Arena.{Arena, EdgeHandle, MoveHandle, triangulation, source_of}
@@ -62,6 +62,18 @@ pub record WayLaws : Type 0 where
       → moves_of arena (joined path other) ≡ moves_of arena path ++ moves_of arena other
   pub back : (arena : Arena) (path : MovePath) → IsArena arena → IsPathIn arena path
       → moves_of arena (inverse_path path) ≡ back_along (moves_of arena path)
+  -- the first moves of a path, and a path from a triangulation to itself several times
+  pub beginning : (arena : Arena) (path : MovePath) (i : ℕ) → IsArena arena → IsPathIn arena path
+      → (end : ℕ)
+      × IsPathIn arena (record { start = path.start; end = end; moves = take i path.moves })
+  pub often : (arena : Arena) (path : MovePath) (n : ℕ) → IsArena arena → IsPathIn arena path
+      → path.end ≡ path.start
+      → IsPathIn arena (record {
+        start = path.start;
+        end = path.start;
+        moves = repeat n path.moves;
+      })
+  pub repeats : RepeatLaws Move
   -- ---- maps
   pub maps : (arena : Arena) (path : MovePath) → IsArena arena → IsPathIn arena path
       → IsMap (triangulation arena path.start) (triangulation arena path.end)

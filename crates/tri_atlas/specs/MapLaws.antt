@@ -1,12 +1,14 @@
 -- What holds of substitutions, of moves and paths and their maps, and of walks under maps.
-use Rattle.std.specs.Prelude.{◌≡◌, ◌<◌, ◌+◌, ℕ, ℤ, List, [], ◌∷◌, ◌++◌, length}
+use Rattle.std.specs.Prelude.{◌≡◌, ◌<◌, ◌+◌, ℕ, ℤ, pos, List, [], ◌∷◌, ◌++◌, length}
 use Rattle.std.specs.List.{All, flat_map, repeat}
 use Rattle.ideal_tri.specs.Curves.{IsSameCurve}
+use Rattle.ideal_tri.specs.Flips.{flipped}
+use Rattle.ideal_tri.specs.Labels.{inverse}
 use Rattle.ideal_tri.specs.Words.{inverse_word, reduce, cyclic_reduce, IsRotation}
-use Rattle.ideal_tri.specs.Triangulations.{IsTriangulation, IsLabel, IsWalk}
-use Rattle.tri_atlas.specs.FlipPaths.{CanBeFlipped, flips_along, flipped_along}
+use Rattle.ideal_tri.specs.Triangulations.{IsTriangulation, IsLabel, IsWalk, next, previous}
+use Rattle.tri_atlas.specs.FlipPaths.{IsFlippableEdge, CanBeFlipped, flips_along, flipped_along}
 use Rattle.tri_atlas.specs.Maps.{IsOdd, identity, after, image_of_letter, path_map, IsMap}
-use Rattle.tri_atlas.specs.Moves.{Move, IsMove, back_of, ArePath, back_along, triangle_image}
+use Rattle.tri_atlas.specs.Moves.{Move, IsFlip, IsMove, back_of, ArePath, back_along, triangle_image}
 
 -- substitutions that respect inverses
 pub record SubstitutionLaws : Type 0 where
@@ -88,8 +90,12 @@ pub record PathLaws : Type 0 where
       → ArePath before moves target → IsLabel before x
       → path_map (moves ++ back_along moves) x ≡ x ∷ []
 
--- flips of flippable edges, one after another
+-- the flip of a flippable edge, with the sides of its two triangles, and flips one after another
 pub record FlipPathLaws : Type 0 where
+  pub is_flip : (triples : List (List ℤ)) (e : ℕ) → IsFlippableEdge triples e
+      → IsFlip triples (flipped triples (pos e)) (pos e) (next triples (pos e))
+      (previous triples (pos e)) (next triples (inverse (pos e)))
+      (previous triples (inverse (pos e)))
   pub path : (triples : List (List ℤ)) (edges : List ℕ) → IsTriangulation triples
       → CanBeFlipped triples edges
       → ArePath triples (flips_along triples edges) (flipped_along triples edges)

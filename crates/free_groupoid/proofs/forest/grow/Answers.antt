@@ -15,7 +15,7 @@ loop-k-preserved c =
           subst (λ ns. IsGrown c.args.tri.now c.args.nodes.now.items c.args.t ns (c.loop-k.k + 1)) (ap (λ v. v.items)
           (sym w.nodes-is))
           (grown_more _ _ _ _ _ _ c.loop-k.invariant inside (omega (arith, w.if-i-len.true, c.len.ensures, place))
-          (λ done todo n is_nodes here. w.in_ok-sprout.ensures done todo n is_nodes (here ∙ sym place)))
+          (λ done queue n is_nodes here. w.in_ok-sprout.ensures done queue n is_nodes (here ∙ sym place)))
       | else-i-len w ↦
           subst (λ ns. IsGrown c.args.tri.now c.args.nodes.now.items c.args.t ns (c.loop-k.k + 1)) (ap (λ v. v.items)
           (sym w.nodes-is))

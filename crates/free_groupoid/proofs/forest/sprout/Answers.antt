@@ -13,6 +13,6 @@ loop-e-preserved c =
     (c.in_ok-push_beyond-2.ensures)
 
 pub returns : goal.returns
-returns c = λ done todo n is_old here.
+returns c = λ done queue n is_old here.
     tried_all _ _ _ _ _ _ _ n (omega (arith, c.edges-e-end.ensures.count)) c.loop-e.invariant
     (c.node.view_is ∙ c.in_ok-node.ensures ∙ node_there _ _ _ _ _ _ is_old here c.index.ensures) is_old

@@ -1,9 +1,11 @@
+use Rattle.std.proofs.Common.{refl}
 use Rattle.free_groupoid.proofs.Substituting.{substitution-odd}
 use Rattle.free_groupoid.proofs.MapsIn.{followed_in, composed_in, identity_in, image_on}
-use Rattle.free_groupoid.proofs.Along.{followed_letter, along_letter, along_triangle, along_in}
+use Rattle.free_groupoid.proofs.Along.{followed_letter, along_letter, along_triangle, along_in, along_source}
+use Rattle.free_groupoid.proofs.Along.{along_target, followed_along-append, StaysWithin-append}
 use Rattle.free_groupoid.proofs.Undone.{there_and_back}
 use Rattle.free_groupoid.proofs.Composing.{composed_letter, composed_walk, path_letter, path_after}
-use Rattle.free_groupoid.specs.GroupoidLaws.{MakingLaws, ImageLaws, ActionLaws}
+use Rattle.free_groupoid.specs.GroupoidLaws.{MakingLaws, ImageLaws, ActionLaws, AlongLaws}
 use Rattle.free_groupoid.proofs.laws.groupoid_laws.Goals as goal
 
 pub returns : goal.returns
@@ -37,4 +39,11 @@ returns c =
           there_and_back labels words surface mapping atlas arena sound f path.start path.end path.moves h p.moves_lead
           follows;
     } in
-    record { making = making; images = images; action = action }
+    let along : AlongLaws = record {
+      along = followed_along-append labels words surface mapping atlas;
+      within = StaysWithin-append;
+      source = along_source labels words surface mapping atlas;
+      target = λ arena f moves t lead. along_target labels words surface mapping atlas arena f f.target t moves lead
+          refl;
+    } in
+    record { making = making; images = images; action = action; along = along }
