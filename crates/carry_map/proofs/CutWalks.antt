@@ -1,25 +1,19 @@
 -- Legal walks from a switch to a switch, and the passes that they are cut into.
 --
 -- The letters of a pass are a branch: a legal walk of at least two letters from a switch to a switch. So what is glued
--- from passes is legal and ends at a switch, and passes are split where their walks are. The first two letters settle a
--- branch, and of a branch and its inverse just one is listed, once; so the first pass is settled by the walk, and after
--- it the next, to the end.
-use Rattle.std.proofs.Common.{ℕ, ℤ, pos, Bool, true, false, List, [], ◌∷◌, ◌++◌, ◌≡◌, ◌<◌, ◌&&◌, inl, inr}
-use Rattle.std.proofs.Common.{refl, sym, ◌∙◌, ap, subst, append_assoc, arith, length}
-use Rattle.std.proofs.Common.{length-append, get_or, if◌then◌else◌}
-use Rattle.std.specs.List.{All, Contains}
-use Rattle.std.specs.Ordering.{int_eq}
-use Rattle.std.proofs.lemmas.Bool.{true≢false, cases_order, le-ltb, or_from}
-use Rattle.std.proofs.lemmas.List.{append_cancel_left, get_or_append_left}
-use Rattle.std.proofs.lemmas.List.Elements.{All-nil, All-cons, All-head, All-tail, All-append, Contains-get_or}
+-- from passes is legal and ends at a switch, and passes are split where their walks are.
+use Rattle.std.proofs.Common.{ℕ, ℤ, Bool, true, false, List, [], ◌∷◌, ◌++◌, ◌≡◌, ◌<◌, inl, inr}
+use Rattle.std.proofs.Common.{refl, sym, ◌∙◌, ap, subst, append_assoc, length}
+use Rattle.std.proofs.Common.{get_or, if◌then◌else◌}
+use Rattle.std.specs.List.{All}
+use Rattle.std.proofs.lemmas.List.Elements.{All-nil, All-cons, All-head, All-tail, All-append}
 use Rattle.ideal_tri.specs.Labels.{inverse}
 use Rattle.ideal_tri.specs.Words.{inverse_word, last_of}
 use Rattle.ideal_tri.specs.Triangulations.{IsLabel, IsWalk, triangle_of}
 use Rattle.ideal_tri.specs.SurfaceLaws.{SurfaceLaws}
-use Rattle.ideal_tri.specs.Vertices.{rank}
 use Rattle.free_groupoid.specs.Walks.{DualWalk, IsWalkOn}
 use Rattle.train_track.specs.Tracks.{IsLegal, IsLegalPair, is_switch}
-use Rattle.train_track.specs.Branches.{IsBranch, letter_at, are_before, is_before}
+use Rattle.train_track.specs.Branches.{IsBranch, letter_at}
 use Rattle.train_track.specs.Passes.{Pass, letters_of, AreGlued, IsFromSwitchToSwitch}
 use Rattle.carry_map.proofs.TrackKnown.{TrackKnown}
 use Rattle.carry_map.proofs.WordParts.{last_of-append, last_read, all_last, neighbours_joined}
@@ -44,19 +38,6 @@ branch_between surfaces ts out x u h = record {
       (sym (last_read x u (h.first ∷ h.between) h.last h.letters)) h.ends;
 }
 
-abbrev pass_of : ℕ → Bool → Pass
-pass_of n b = record { branch = n; forwards = b }
-
--- no word is before itself
-not_self : (x y : ℤ) → are_before x y x y ≡ false
-unfolding are_before
-not_self x y =
-    or_from _ _ (le-ltb (rank x) (rank x) (omega arith)) (right (int_eq x x) _ (le-ltb (rank y) (rank y) (omega arith)))
-  where
-    right : (a b : Bool) → b ≡ false → (a && b) ≡ false
-    right true b e = e
-    right false b e = refl
-
 module _ (ts : List (List ℤ)) (out : List ℤ) (bs : List (List ℤ)) (k : TrackKnown ts out bs) where
   -- ---- one pass
 
@@ -73,78 +54,7 @@ module _ (ts : List (List ℤ)) (out : List ℤ) (bs : List (List ℤ)) (k : Tra
   pass_between p x u within is =
       branch_between k.surfaces ts out x u (subst (IsBranch ts out) is (pass_branch p within))
 
-  pub pass_long : (p : Pass) (x : ℤ) (u : List ℤ) → p.branch < length bs → letters_of bs p ≡ x ∷ u → 0 < length u
-  pass_long p x u within is = elim (k.branch_laws.lengths (letters_of bs p) (pass_branch p within)) [
-    | inl e ↦ omega (arith, ap length is)
-    | inr e ↦ omega (arith, ap length is)
-  ]
-
-  one_place : (i j : ℕ) → i < length bs → j < length bs → get_or bs i [] ≡ get_or bs j [] → i ≡ j
-  one_place i j within inside e = elim (cases_order i j) [
-    | inl same ↦ same
-    | inr (inl less) ↦ absurd (apart (get_or bs j [])
-        (subst (λ (b : List ℤ). is_before b (get_or bs j []) ≡ true) e (k.list.order i j [] less inside)))
-    | inr (inr less) ↦ absurd (apart (get_or bs i [])
-        (subst (λ (b : List ℤ). is_before b (get_or bs i []) ≡ true) (sym e) (k.list.order j i [] less within)))
-  ]
-    where
-      apart : (b : List ℤ) → is_before b b ≡ true → ⊥
-      apart b e = true≢false (sym e ∙ not_self (letter_at b 0) (letter_at b 1))
-
-  -- a listed branch is not the inverse of one
-  one_way : (i j : ℕ) → i < length bs → j < length bs → get_or bs i [] ≡ inverse_word (get_or bs j []) → ⊥
-  one_way i j within inside e =
-      k.list_laws.not_both (get_or bs j []) (k.list.branch j [] inside) (Contains-get_or bs j [] inside)
-      (subst (Contains bs) e (Contains-get_or bs i [] within))
-
-  -- the letters settle the pass
-  same_pass : (i j : ℕ) (b c : Bool) → i < length bs → j < length bs
-      → letters_of bs (pass_of i b) ≡ letters_of bs (pass_of j c) → pass_of i b ≡ pass_of j c
-  same_pass i j true true within inside e =
-      ap (λ (n : ℕ). pass_of n true) (one_place i j within inside e)
-  same_pass i j false false within inside e =
-      ap (λ (n : ℕ). pass_of n false)
-      (one_place i j within inside
-      (sym (k.words.inverses.twice (get_or bs i [])) ∙ ap inverse_word e ∙ k.words.inverses.twice (get_or bs j [])))
-  same_pass i j true false within inside e = absurd (one_way i j within inside e)
-  same_pass i j false true within inside e = absurd (one_way j i inside within (sym e))
-
-  -- so do the first two
-  first_pass : (x : ℤ) (p q : Pass) (u v u' v' : List ℤ) → p.branch < length bs → q.branch < length bs
-      → letters_of bs p ≡ x ∷ u → letters_of bs q ≡ x ∷ u' → u ++ v ≡ u' ++ v'
-      → letters_of bs p ≡ letters_of bs q
-  first_pass x p q u v u' v' within inside is is' e =
-      k.branch_laws.settled (letters_of bs p) (letters_of bs q) (pass_branch p within) (pass_branch q inside)
-      (ap (λ (w : List ℤ). letter_at w 0) is ∙ sym (ap (λ (w : List ℤ). letter_at w 0) is'))
-      (ap (λ (w : List ℤ). letter_at w 1) is
-      ∙ sym (get_or_append_left u v (pos 0) 0 (pass_long p x u within is))
-      ∙ ap (λ (w : List ℤ). letter_at w 0) e
-      ∙ get_or_append_left u' v' (pos 0) 0 (pass_long q x u' inside is')
-      ∙ sym (ap (λ (w : List ℤ). letter_at w 1) is'))
-
   -- ---- passes one after another
-
-  pub only : (x : ℤ) (passes others : List Pass) (w : List ℤ) → AreGlued bs x passes w → AreGlued bs x others w
-      → passes ≡ others
-  only x [] [] w h g = refl
-  only x [] (q ∷ others) w h (u, v, within, is, split, rest) =
-      absurd (let long : 0 < length u = pass_long q x u within is in
-      omega (arith, ap length h, ap length split, length-append u v))
-  only x (p ∷ passes) [] w (u, v, within, is, split, rest) g =
-      absurd (let long : 0 < length u = pass_long p x u within is in
-      omega (arith, ap length g, ap length split, length-append u v))
-  only x (p ∷ passes) (q ∷ others) w (u, v, within, is, split, rest) (u', v', inside, is', split', rest') =
-      let letters : letters_of bs p ≡ letters_of bs q =
-      first_pass x p q u v u' v' within inside is is' (sym split ∙ split') in
-      let whole : x ∷ u ≡ x ∷ u' = sym is ∙ letters ∙ is' in
-      let front : u ≡ u' = cc in
-      let back : v ≡ v' =
-      append_cancel_left u v v' (sym split ∙ split' ∙ ap (λ (z : List ℤ). z ++ v') (sym front)) in
-      ap (λ (r : Pass). r ∷ passes) (same_pass p.branch q.branch p.forwards q.forwards within inside letters)
-      ∙ ap (λ (ps : List Pass). q ∷ ps)
-      (only (last_of x u) passes others v rest
-      (subst (λ (z : List ℤ). AreGlued bs (last_of x z) others v) (sym front)
-      (subst (AreGlued bs (last_of x u') others) (sym back) rest')))
 
   pub labels : (x : ℤ) (passes : List Pass) (w : List ℤ) → IsLabel ts x → AreGlued bs x passes w
       → All (IsLabel ts) (x ∷ w)

@@ -17,7 +17,7 @@ use Rattle.carry_map.specs.Iterates.{IsLegalLoop, ArePassesRound}
 use Rattle.carry_map.proofs.TrackKnown.{TrackKnown}
 use Rattle.carry_map.proofs.WordParts.{last_of-append, all_left, all_right, neighbours_joined, neighbours_left}
 use Rattle.carry_map.proofs.WordParts.{neighbours_right, closed_parts, not_empty}
-use Rattle.carry_map.proofs.CutWalks.{pass_between, cut, only}
+use Rattle.carry_map.proofs.CutWalks.{pass_between, cut}
 
 module _ (ts : List (List ℤ)) (out : List ℤ) (bs : List (List ℤ)) (k : TrackKnown ts out bs) where
   -- ---- closed legal walks
@@ -147,7 +147,7 @@ module _ (ts : List (List ℤ)) (out : List ℤ) (bs : List (List ℤ)) (k : Tra
       → ArePassesRound bs others v → passes ≡ others
   only_round [] v passes others e h g = absurd (let some : 0 < length {A = ℤ} [] = h.some in omega arith)
   only_round (x ∷ u) v passes others e h g =
-      only ts out bs k x passes others (u ++ (x ∷ [])) h.passed
+      k.list_laws.only x passes others (u ++ (x ∷ [])) h.passed
       (subst (ArePassesRound bs others) (sym e) g).passed
 
   turned_parts : (x : ℤ) (a : List ℤ) (y : ℤ) (b : List ℤ) (passes others : List Pass)
@@ -167,11 +167,11 @@ module _ (ts : List (List ℤ)) (out : List ℤ) (bs : List (List ℤ)) (k : Tra
       (subst (λ (z : ℤ). is_switch ts out z ≡ true) (sym back) s) in (
         first,
         second,
-        only ts out bs k x passes (first ++ second) ((a ++ (y ∷ [])) ++ (b ++ (x ∷ [])))
+        k.list_laws.only x passes (first ++ second) ((a ++ (y ∷ [])) ++ (b ++ (x ∷ [])))
             (subst (ArePassesOf bs passes) (closed_parts x a y b) round.passed)
             (k.list_laws.join x first second (a ++ (y ∷ [])) (b ++ (x ∷ [])) on
             (subst (λ (z : ℤ). AreGlued bs z second (b ++ (x ∷ []))) (sym at) from)),
-        only ts out bs k y others (second ++ first) ((b ++ (x ∷ [])) ++ (a ++ (y ∷ [])))
+        k.list_laws.only y others (second ++ first) ((b ++ (x ∷ [])) ++ (a ++ (y ∷ [])))
             (subst (ArePassesOf bs others) (closed_parts y b x a) turned.passed)
             (k.list_laws.join y second first (b ++ (x ∷ [])) (a ++ (y ∷ [])) from
             (subst (λ (z : ℤ). AreGlued bs z first (a ++ (y ∷ []))) (sym back) on)),

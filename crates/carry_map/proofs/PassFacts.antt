@@ -20,8 +20,6 @@ pub record PassFacts (triples : List (List ℤ)) (left_out : List ℤ) (branches
   pub cut : (x : ℤ) (w : List ℤ) → All (IsLabel triples) (x ∷ w) → IsLegal triples left_out (x ∷ w)
       → is_switch triples left_out x ≡ true → is_switch triples left_out (last_of x w) ≡ true
       → (passes : List Pass) × AreGlued branches x passes w
-  pub only : (x : ℤ) (passes others : List Pass) (w : List ℤ) → AreGlued branches x passes w
-      → AreGlued branches x others w → passes ≡ others
   pub labels : (x : ℤ) (passes : List Pass) (w : List ℤ) → IsLabel triples x → AreGlued branches x passes w
       → All (IsLabel triples) (x ∷ w)
   pub legal : (x : ℤ) (passes : List Pass) (w : List ℤ) → IsLabel triples x → AreGlued branches x passes w

@@ -10,7 +10,7 @@ use Rattle.train_track.specs.TrackLaws.{TrackLaws}
 use Rattle.carry_map.specs.IterateLaws.{LoopLaws}
 use Rattle.carry_map.proofs.PassFacts.{PassFacts}
 use Rattle.carry_map.proofs.TrackKnown.{TrackKnown, track_known}
-use Rattle.carry_map.proofs.CutWalks.{cut, only, labels, legal, end, split}
+use Rattle.carry_map.proofs.CutWalks.{cut, labels, legal, end, split}
 use Rattle.carry_map.proofs.BackwardPasses.{back}
 use Rattle.carry_map.proofs.LoopPasses.{loop_rotation, loop_reduced, begun, switch, some, turned}
 use Rattle.carry_map.proofs.LegalLoops.{exists}
@@ -19,7 +19,6 @@ use Rattle.carry_map.proofs.LoopCounts.{loop_counts}
 facts_of : (ts : List (List ℤ)) (out : List ℤ) (bs : List (List ℤ)) → TrackKnown ts out bs → PassFacts ts out bs
 facts_of ts out bs k = record {
   cut = cut ts out bs k;
-  only = only ts out bs k;
   labels = labels ts out bs k;
   legal = λ x passes w l. legal ts out bs k x passes w;
   end = end ts out bs k;

@@ -5,8 +5,9 @@
 -- side. In a list that has x there is a first place where x stands. What stands beside x in a second list of the same
 -- length is the entry at that place: before it the labels differ from x, and there they agree.
 use Rattle.std.proofs.Common.{ℕ, zero, suc, ℤ, pos, negsuc, Bool, true, false, List, [], ◌∷◌, ◌≡◌, ◌≢◌, ◌<◌}
-use Rattle.std.proofs.Common.{◌≤◌, ◌+◌, inl, inr, refl, sym, ◌∙◌, ap, subst, arith, length, map, get_or}
-use Rattle.std.proofs.Common.{if◌then◌else◌, ◌||◌}
+use Rattle.std.proofs.Common.{◌≤◌, ◌+◌, inl, inr, sym, ◌∙◌, ap, subst, arith, length, map, get_or}
+use Rattle.std.proofs.Common.{if◌then◌else◌}
+use Rattle.std.proofs.Math.Bool.{or_comm}
 use Rattle.std.proofs.lemmas.Bool.{cases_Bool, cases_eq, cond-true, cond-false}
 use Rattle.std.specs.List.{All, Contains, filter, range_with_len}
 use Rattle.std.proofs.lemmas.List.Elements.{All-filter}
@@ -45,18 +46,12 @@ kept_in_range p a (suc n) k low high h =
     rest : List ℤ
     rest = filter p (map pos (range_with_len (a + 1) n))
 
-or_turned : (a b : Bool) → (a || b) ≡ (b || a)
-or_turned true true = refl
-or_turned true false = refl
-or_turned false true = refl
-or_turned false false = refl
-
 -- an edge is a switch from both its sides
 pub switch_forwards : (ts : List (List ℤ)) (out : List ℤ) (x : ℤ) → is_switch ts out x ≡ true
     → is_switch ts out (pos (edge_of x)) ≡ true
 unfolding is_switch
 switch_forwards ts out (pos n) h = h
-switch_forwards ts out (negsuc n) h = or_turned (is_fork ts out (pos n)) (is_fork ts out (negsuc n)) ∙ h
+switch_forwards ts out (negsuc n) h = or_comm (is_fork ts out (pos n)) (is_fork ts out (negsuc n)) ∙ h
 
 pub switch_listed : (ts : List (List ℤ)) (out : List ℤ) (x : ℤ) → IsLabel ts x → is_switch ts out x ≡ true
     → Contains (switches_of ts out) (pos (edge_of x))

@@ -5,11 +5,10 @@ use Rattle.std.proofs.Common.{sym, subst, arith}
 use Rattle.std.proofs.lemmas.List.Sums.{sum_by-set, get_or-le-sum_by}
 use Rattle.ideal_tri.specs.Flips.{flipped}
 use Rattle.ideal_tri.specs.FlipLaws.{FlipLaws}
-use Rattle.ideal_tri.specs.Labels.{inverse}
-use Rattle.ideal_tri.specs.Triangulations.{IsTriangulation, next, previous}
+use Rattle.ideal_tri.specs.Triangulations.{IsTriangulation}
 use Rattle.ideal_tri.specs.Vectors.{IsMulticurve}
 use Rattle.tri_atlas.specs.Arena.{flip_of}
-use Rattle.tri_atlas.specs.Moves.{IsFlip}
+use Rattle.tri_atlas.specs.MapLaws.{FlipPathLaws}
 use Rattle.tri_atlas.specs.VectorLaws.{VectorLaws}
 use Rattle.curve_shorten.specs.Descents.{total_flipped, HasNoLower, IsBest}
 use Rattle.tri_atlas.specs.FlipPaths.{IsFlippableEdge}
@@ -17,31 +16,18 @@ use Rattle.curve_shorten.specs.inside.Rounds.{IsFlipOf, number_flipped}
 
 -- ---- one flip
 
-pub is_flip : (triples : List (List ℤ)) (e : ℕ) → IsFlippableEdge triples e
-    → IsFlip triples (flipped triples (pos e)) (pos e) (next triples (pos e)) (previous triples (pos e))
-    (next triples (inverse (pos e))) (previous triples (inverse (pos e)))
-is_flip triples e h = record {
-  label = h.0;
-  flippable = h.1;
-  side_a = refl;
-  side_b = refl;
-  side_c = refl;
-  side_d = refl;
-  result = refl;
-}
-
-pub is_flip_of : (triples : List (List ℤ)) (w : List ℕ) (e : ℕ) → IsTriangulation triples → FlipLaws → VectorLaws
-    → IsMulticurve triples w → IsFlippableEdge triples e → IsFlipOf triples w e
-is_flip_of triples w e sound flips vectors multicurve h =
+pub is_flip_of : (triples : List (List ℤ)) (w : List ℕ) (e : ℕ) → IsTriangulation triples → FlipLaws
+    → FlipPathLaws → VectorLaws → IsMulticurve triples w → IsFlippableEdge triples e → IsFlipOf triples w e
+is_flip_of triples w e sound flips paths vectors multicurve h =
     let within : e < length w = subst (λ (n : ℕ). e < n) (sym multicurve.one_per_edge) h.0 in
     record {
       within = within;
       part = get_or-le-sum_by (λ n. n) w e 0 within;
-      enough = vectors.numbers.enough triples (flipped triples (pos e)) (pos e) _ _ _ _ w sound (is_flip triples e h)
+      enough = vectors.numbers.enough triples (flipped triples (pos e)) (pos e) _ _ _ _ w sound (paths.is_flip triples e h)
           multicurve;
       total = sum_by-set (λ n. n) w e (number_flipped triples w e) 0 within;
       multicurve = (vectors.moves triples (flipped triples (pos e)) (flip_of triples (pos e)) w sound
-          (flips.flips triples (pos e) sound h.0 h.1).triangulation (is_flip triples e h) multicurve).multicurve;
+          (flips.flips triples (pos e) sound h.0 h.1).triangulation (paths.is_flip triples e h) multicurve).multicurve;
     }
 
 -- ---- among the edges

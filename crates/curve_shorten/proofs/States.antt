@@ -9,6 +9,7 @@ use Rattle.ideal_tri.specs.Triangulations.{IsTriangulation}
 use Rattle.ideal_tri.specs.Vectors.{IsMulticurve}
 use Rattle.tri_atlas.specs.Arena.{Arena, MoveHandle, triangulation, Grows, target_of, step_of, flip_of}
 use Rattle.tri_atlas.specs.AtlasLaws.{AtlasLaws, GrowthLaws}
+use Rattle.tri_atlas.specs.MapLaws.{FlipPathLaws}
 use Rattle.tri_atlas.specs.Moves.{Move}
 use Rattle.tri_atlas.specs.MovedVectors.{vector_after, vector_along}
 use Rattle.tri_atlas.specs.Paths.{MovePath, IsPathIn, moves_of, then_move}
@@ -21,7 +22,6 @@ use Rattle.curve_shorten.specs.FlippedCornerLaws.{FlippedCornerLaws}
 use Rattle.curve_shorten.specs.ShortCurves.{total_limit}
 use Rattle.curve_shorten.specs.declared.short.Short.{Short}
 use Rattle.curve_shorten.specs.inside.States.{there, IsState, IsAlong, IsFlipIn, IsAfterFlip}
-use Rattle.curve_shorten.proofs.FlippedTotals.{is_flip}
 
 -- coordinates stay coordinates as the atlas grows
 pub coordinates_kept : (old new : Arena) (c : Coordinates) → GrowthLaws → Grows old new → AreCoordinatesIn old c
@@ -78,10 +78,10 @@ module _ (old new : Arena) (s : Short) (e : ℕ) (m : MoveHandle) (path : MovePa
         ∙ ap (λ (ms : List Move). vector_along ms curve.numbers) (sym moves_after));
   }
 
-  pub after_flip : FlippedCornerLaws → FlipLaws → IsFlippableEdge (there old s) e
+  pub after_flip : FlippedCornerLaws → FlipLaws → FlipPathLaws → IsFlippableEdge (there old s) e
       → total_flipped (there old s) s.coords.numbers e ≤ sum s.coords.numbers → IsPathIn new path
       → AreCoordinatesIn new coords → IsAfterFlip e old s new after
-  after_flip corners flips flippable no_greater path_in here = record {
+  after_flip corners flips paths flippable no_greater path_in here = record {
     state = record {
       path = path_in;
       end = ap (λ (p : MovePath). p.end) pushed ∙ sym (ap (λ (c : Coordinates). c.tri) moved);
@@ -95,10 +95,10 @@ module _ (old new : Arena) (s : Short) (e : ℕ) (m : MoveHandle) (path : MovePa
       free = subst (λ (ts : List (List ℤ)). HasFreeCorners ts coords.numbers) (sym tri_after)
           (subst (λ (w : List ℕ). HasFreeCorners (flipped (there old s) (pos e)) w) (sym numbers_after)
           (corners.free (there old s) (flipped (there old s) (pos e)) (pos e) _ _ _ _ s.coords.numbers state.sound
-          (is_flip (there old s) e flippable) state.here.multicurve state.free));
+          (paths.is_flip (there old s) e flippable) state.here.multicurve state.free));
       some = subst (λ (w : List ℕ). ¬ All (λ n. n ≡ 0) w) (sym numbers_after)
           (corners.some (there old s) (flipped (there old s) (pos e)) (pos e) _ _ _ _ s.coords.numbers state.sound
-          (is_flip (there old s) e flippable) state.here.multicurve state.some);
+          (paths.is_flip (there old s) e flippable) state.here.multicurve state.some);
     };
     tri = tri_after;
     numbers = numbers_after;

@@ -1,20 +1,12 @@
 -- What holds of the corners of a vector across a flip.
-use Rattle.std.specs.Prelude.{◌≡◌, ◌≤◌, ℕ, ℤ, pos, List, sum, All}
-use Rattle.ideal_tri.specs.Flips.{flipped}
-use Rattle.ideal_tri.specs.Labels.{inverse}
+use Rattle.std.specs.Prelude.{◌≡◌, ◌≤◌, ℕ, ℤ, List, sum, All}
 use Rattle.ideal_tri.specs.PeripheralParts.{HasFreeCorners}
-use Rattle.ideal_tri.specs.Triangulations.{IsTriangulation, next, previous}
+use Rattle.ideal_tri.specs.Triangulations.{IsTriangulation}
 use Rattle.ideal_tri.specs.Vectors.{IsMulticurve}
-use Rattle.tri_atlas.specs.FlipPaths.{IsFlippableEdge}
 use Rattle.tri_atlas.specs.Moves.{flip, IsFlip}
 use Rattle.tri_atlas.specs.MovedVectors.{vector_after}
 
 pub record FlippedCornerLaws : Type 0 where
-  -- the flip of an edge that can be flipped, with the sides of its two triangles
-  pub is_flip : (triples : List (List ℤ)) (e : ℕ) → IsFlippableEdge triples e
-      → IsFlip triples (flipped triples (pos e)) (pos e) (next triples (pos e))
-      (previous triples (pos e)) (next triples (inverse (pos e)))
-      (previous triples (inverse (pos e)))
   -- a flip keeps that each vertex has a corner without strands
   pub free : (before after : List (List ℤ)) (e a b c d : ℤ) (w : List ℕ) → IsTriangulation before
       → IsFlip before after e a b c d → IsMulticurve before w → HasFreeCorners before w

@@ -13,7 +13,7 @@ ghost use Rattle.curve_shorten.specs.Descents.{HasNoLower, IsBest, IsLevel, IsFi
 ghost use Rattle.curve_shorten.specs.inside.Rounds.{IsBestBefore, IsFlipOf, number_flipped};
 
 use ideal_tri::{EDGES, Label, Tri, flip_laws, label_laws, surface_laws};
-use tri_atlas::vector_laws;
+use tri_atlas::{map_laws, vector_laws};
 
 /// The edge whose flip lowers the total most, the least one on a tie; none exactly where no flip
 /// lowers it.
@@ -170,6 +170,7 @@ fn flip_law(tri: &Tri, w: &[u128], e: u32)
     label_laws();
     surface_laws();
     flip_laws();
+    map_laws();
     vector_laws();
 }
 

@@ -17,7 +17,7 @@ use flip_move::{FlipError, flip};
 use ideal_tri::{Memory, drawing_laws, flip_laws};
 use std::alloc::Global;
 use strand_draw::{DrawError, is_one_curve};
-use tri_atlas::{Atlas, EdgeId, MoveId, Path, TriId, atlas_laws, vector_laws};
+use tri_atlas::{Atlas, EdgeId, MoveId, Path, TriId, atlas_laws, map_laws, vector_laws};
 
 /// The largest total of a curve.
 const TOTAL_LIMIT: u64 = 4096;
@@ -190,6 +190,7 @@ fn flip_edge(atlas: &mut Atlas, at: &mut Short, e: u32) -> Result<(), Memory>
 {
     flipped_corner_laws();
     atlas_laws();
+    map_laws();
     vector_laws();
     flip_laws();
     let m = flip_in(atlas, at.coords.tri(), e)?;

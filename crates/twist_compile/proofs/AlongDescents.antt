@@ -33,7 +33,7 @@ module _ (laws : LowerLaws) where
       → IsWayDown triples w (e ∷ edges) end v
   way_from triples end w v edges e p h way = record {
     triangulation = way.triangulation;
-    path = (flipped triples (pos e), flipped_is triples e p h, laws.corners.is_flip triples e h, way.path);
+    path = (flipped triples (pos e), flipped_is triples e p h, laws.maps.flips.is_flip triples e h, way.path);
     vector = way.vector;
     multicurve = way.multicurve;
     free = way.free;
@@ -45,14 +45,14 @@ module _ (laws : LowerLaws) where
       → IsMulticurve (flipped triples (pos e)) (vector_flipped triples w e)
   multicurve_flipped triples w e p h m =
       (laws.vectors.moves triples (flipped triples (pos e)) (flip_of triples (pos e)) w p (flipped_is triples e p h)
-      (laws.corners.is_flip triples e h) m).multicurve
+      (laws.maps.flips.is_flip triples e h) m).multicurve
 
   free_flipped : (triples : List (List ℤ)) (w : List ℕ) (e : ℕ) → IsTriangulation triples
       → IsFlippableEdge triples e → IsMulticurve triples w → HasFreeCorners triples w
       → HasFreeCorners (flipped triples (pos e)) (vector_flipped triples w e)
   free_flipped triples w e p h m free =
       laws.corners.free triples (flipped triples (pos e)) (pos e) (next triples (pos e)) (previous triples (pos e))
-      (next triples (inverse (pos e))) (previous triples (inverse (pos e))) w p (laws.corners.is_flip triples e h) m free
+      (next triples (inverse (pos e))) (previous triples (inverse (pos e))) w p (laws.maps.flips.is_flip triples e h) m free
 
   pub way_down : (triples : List (List ℤ)) (w edges : List ℕ) (end : List (List ℤ)) (v : List ℕ)
       → IsDescent triples w edges end v → IsTriangulation triples → IsMulticurve triples w → HasFreeCorners triples w

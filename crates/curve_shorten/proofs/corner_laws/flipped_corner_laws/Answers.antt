@@ -1,5 +1,4 @@
 use Rattle.curve_shorten.proofs.FlippedSides.{Given}
-use Rattle.curve_shorten.proofs.FlippedTotals.{is_flip}
 use Rattle.curve_shorten.proofs.FreeCorners.{free_after}
 use Rattle.curve_shorten.proofs.NewCorners.{crossed_after}
 use Rattle.curve_shorten.proofs.SmallTotals.{two_at_least}
@@ -15,7 +14,6 @@ returns c =
       vectors = c.vector_laws.ensures;
     } in
     record {
-      is_flip = is_flip;
       free = λ before after e a b c d w p h m. free_after given before after e a b c d w p h m;
       some = λ before after e a b c d w p h m. crossed_after given before after e a b c d w p h m;
       two = λ triples w p m free. two_at_least given triples p w m free;

@@ -20,5 +20,5 @@ returns-clause-flipped c =
     (subst (λ (t : ℕ). IsFlipIn c.args.atlas.now c.flip_in.new.atlas t c.args.e c.in_ok-m.m) c.tri.ensures
     c.in_ok-m.ensures.flipped)
     c.in_ok-push.ensures.accepted c.in-Ok.ensures.moved c.flipped_corner_laws.ensures
-    c.flip_laws.ensures c.requires.flippable
+    c.flip_laws.ensures c.map_laws.ensures.flips c.requires.flippable
     c.requires.no_greater c.in_ok-push.ensures.path c.in-Ok.ensures.here
