@@ -3,7 +3,7 @@
 -- The path of the candidate with power p is this way with m ≤ p times the word, then p - m times the word, and the
 -- flips. So where the way passes the cap, all candidates with p ≥ m have the same line: the letters after the same
 -- first move.
-use Rattle.std.proofs.Common.{◌≡◌, ◌<◌, ◌≤◌, ◌+◌, ◌-◌, ◌++◌, ℕ, zero, suc, ℤ, List, length, take}
+use Rattle.std.proofs.Common.{◌≡◌, ◌<◌, ◌≤◌, ◌+◌, ◌-◌, ◌++◌, ℕ, ℤ, List, length, take}
 use Rattle.std.proofs.Common.{sym, ◌∙◌, ap, subst, arith}
 use Rattle.std.specs.List.{repeat}
 use Rattle.std.proofs.lemmas.List.{append_assoc, append-nil, length-append, take-append-le}
@@ -24,20 +24,6 @@ use Rattle.verdict_plan.specs.inside.Sites.{IsTrackAt, IsBackWay, IsLineWith, co
 use Rattle.verdict_plan.specs.inside.Ways.{IsWayAlong, IsPast}
 use Rattle.verdict_plan.specs.declared.stages.Stage.{Stage}
 use Rattle.verdict_plan.specs.declared.ways.Way.{Way}
-
--- ---- lists taken several times
-
-repeat_add : {A : Type 0} (n k : ℕ) (xs : List A) → repeat (n + k) xs ≡ repeat n xs ++ repeat k xs
-repeat_add zero k xs =
-    let none : zero + k ≡ k = omega arith in ap (λ (m : ℕ). repeat m xs) none
-repeat_add {A} (suc n) k xs =
-    let more : suc n + k ≡ suc (n + k) = omega arith in
-    ap (λ (m : ℕ). repeat m xs) more ∙ ap (λ (ys : List A). xs ++ ys) (repeat_add n k xs)
-    ∙ sym (append_assoc xs (repeat n xs) (repeat k xs))
-
-repeat_more : {A : Type 0} (n : ℕ) (xs : List A) → repeat (n + 1) xs ≡ repeat n xs ++ xs
-repeat_more {A} n xs =
-    repeat_add n 1 xs ∙ ap (λ (ys : List A). repeat n xs ++ ys) (append-nil xs)
 
 -- ---- the first move past the cap
 
@@ -62,25 +48,26 @@ module _ (arena : Arena) (word : MovePath) (s : Stage) (times : ℕ) where
   back_moves = back_along (moves_of arena s.path) ++ repeat times (moves_of arena word)
 
   -- what the path of a candidate does behind it
-  path_from : IsKept arena s → (power : ℕ) → times ≤ power
+  path_from : WayLaws → IsKept arena s → (power : ℕ) → times ≤ power
       → path_at arena word s power
       ≡ back_moves ++ (repeat (power - times) (moves_of arena word) ++ moves_of arena s.path)
-  path_from kept power enough =
+  path_from ways kept power enough =
       let back : List Move = back_along (moves_of arena s.path) in
       let turn : List Move = moves_of arena word in
       let flips : List Move = moves_of arena s.path in
       let parts : times + (power - times) ≡ power = omega arith in
       ap (λ (fs : List Move). back_along fs ++ (repeat power turn ++ fs)) (sym kept.moves)
       ∙ ap (λ (n : ℕ). back ++ (repeat n turn ++ flips)) (sym parts)
-      ∙ ap (λ (ms : List Move). back ++ (ms ++ flips)) (repeat_add times (power - times) turn)
+      ∙ ap (λ (ms : List Move). back ++ (ms ++ flips)) (ways.repeats.join times (power - times) turn)
       ∙ ap (λ (ms : List Move). back ++ ms) (append_assoc (repeat times turn) (repeat (power - times) turn) flips)
       ∙ sym (append_assoc back (repeat times turn) (repeat (power - times) turn ++ flips))
 
   -- a path that does this and passes the cap
-  pub line_past : IsKept arena s → (track : TrainTrack) → IsTrackAt arena s track → (path : MovePath) (letters : ℕ)
+  pub line_past : WayLaws → IsKept arena s → (track : TrainTrack) → IsTrackAt arena s track → (path : MovePath)
+      (letters : ℕ)
       → path.start ≡ s.coords.tri → moves_of arena path ≡ back_moves → IsPast arena path letters
       → (power : ℕ) → times ≤ power → IsLineWith arena word s power (Cap letters)
-  line_past kept track at path letters start does (made, past) power enough =
+  line_past ways kept track at path letters start does (made, past) power enough =
       let filling : IsFilling (there arena s) (corners_at arena s) =
       subst (IsFilling (there arena s)) at.corners
       (subst (λ (t : ℕ). IsFilling (triangulation arena t) track.left_out) at.tri at.here.on.filling) in
@@ -92,7 +79,7 @@ module _ (arena : Arena) (word : MovePath) (s : Stage) (times : ℕ) where
         (
           made,
           subst (λ (ms : List Move). IsFirstPast (there arena s) ms letter_cap made letters)
-              (sym (path_from kept power enough))
+              (sym (path_from ways kept power enough))
               (past_on (there arena s) back_moves
               (repeat (power - times) (moves_of arena word) ++ moves_of arena s.path) letter_cap made letters here),
         ),
@@ -109,7 +96,7 @@ module _ (arena : Arena) (word : MovePath) (s : Stage) (times : ℕ) (old : Way)
       ways.join arena old.path word
       ∙ ap (λ (ms : List Move). ms ++ turn) h.moves
       ∙ append_assoc back (repeat times turn) turn
-      ∙ ap (λ (ms : List Move). back ++ ms) (sym (repeat_more times turn))
+      ∙ ap (λ (ms : List Move). back ++ ms) (sym (ways.repeats.more times turn))
 
   pub way_once_more : IsLoop arena word → (new : Way) → IsWayAlong arena (joined old.path word) new
       → IsBackWay arena word s (times + 1) new
@@ -124,7 +111,7 @@ module _ (arena : Arena) (word : MovePath) (s : Stage) (times : ℕ) (old : Way)
       → IsPast arena (joined old.path word) letters → (power : ℕ) → times + 1 ≤ power
       → IsLineWith arena word s power (Cap letters)
   line_once_more kept track at letters past =
-      line_past arena word s (times + 1) kept track at (joined old.path word) letters h.start does_once_more past
+      line_past arena word s (times + 1) ways kept track at (joined old.path word) letters h.start does_once_more past
 
 -- ---- the flips backwards
 
@@ -152,4 +139,4 @@ module _ (arena : Arena) (word : MovePath) (s : Stage) (t : ℕ) (start : t ≡ 
       → IsPast arena (joined still (inverse_path s.path)) letters → (power : ℕ) → 0 ≤ power
       → IsLineWith arena word s power (Cap letters)
   line_first track at letters past =
-      line_past arena word s 0 kept track at (joined still (inverse_path s.path)) letters starts_there does_back past
+      line_past arena word s 0 ways kept track at (joined still (inverse_path s.path)) letters starts_there does_back past

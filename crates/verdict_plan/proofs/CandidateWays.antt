@@ -4,15 +4,15 @@
 -- triangulation of the stage to itself, and does what the path of the candidate does; so its map is the candidate's,
 -- and what the tests of the track find of it is found of the candidate. Where it passes the cap on the flips, that is
 -- the candidate's line.
-use Rattle.std.proofs.Common.{◌≡◌, ◌++◌, ℕ, ℤ, List, [], ◌∷◌, Result, Ok, Err, IfOk, IfErr}
-use Rattle.std.proofs.Common.{refl, sym, ◌∙◌, ap, subst}
+use Rattle.std.proofs.Common.{◌≡◌, ◌++◌, ℕ, ℤ, List, Result, Ok, Err, IfOk, IfErr}
+use Rattle.std.proofs.Common.{sym, ◌∙◌, ap, subst}
 use Rattle.std.specs.List.{repeat}
 use Rattle.std.proofs.lemmas.List.{append_assoc}
-use Rattle.tri_atlas.specs.Arena.{Arena, MoveHandle, IsArena, triangulation}
+use Rattle.tri_atlas.specs.Arena.{Arena, IsArena, triangulation}
 use Rattle.tri_atlas.specs.AtlasLaws.{WayLaws}
 use Rattle.tri_atlas.specs.Moves.{Move, back_along}
 use Rattle.tri_atlas.specs.Paths.{MovePath, IsPathIn, moves_of, joined}
-use Rattle.free_groupoid.specs.GroupoidMaps.{GroupoidMap, identity_map, followed, followed_along}
+use Rattle.free_groupoid.specs.GroupoidMaps.{GroupoidMap, identity_map}
 use Rattle.free_groupoid.specs.MapRefusals.{StaysWithin}
 use Rattle.free_groupoid.specs.Periodic.{IsFirstPast, IsWithin}
 use Rattle.free_groupoid.specs.PeriodicLaws.{FoundLaws, map_along}
@@ -31,11 +31,6 @@ use Rattle.verdict_plan.specs.inside.Ways.{IsWayAlong, IsPast}
 use Rattle.verdict_plan.specs.declared.stages.Stage.{Stage}
 use Rattle.verdict_plan.specs.declared.ways.Way.{Way}
 use Rattle.verdict_plan.proofs.WayMaps.{way_target}
-
-along_source : (arena : Arena) (f : GroupoidMap) (moves : List MoveHandle)
-    → (followed_along arena f moves).source ≡ f.source
-along_source arena f [] = refl
-along_source arena f (m ∷ moves) = along_source arena (followed arena f m) moves
 
 module _ (arena : Arena) (word : MovePath) (s : Stage) (power : ℕ) (way : Way) (ways : WayLaws) (kept : IsKept arena s)
     (h : IsBackWay arena word s power way) where
@@ -70,8 +65,8 @@ module _ (arena : Arena) (word : MovePath) (s : Stage) (power : ℕ) (way : Way)
             maps = along.kept.maps;
             source =
                 ap (λ (f : GroupoidMap). f.source) is
-                ∙ along_source arena (identity_map arena whole.start) whole.moves ∙ at_track;
-            target = way_target arena new along.kept ∙ ap (λ (p : MovePath). p.end) along.is ∙ end;
+                ∙ found.along.source arena (identity_map arena whole.start) whole.moves ∙ at_track;
+            target = way_target found arena new along.kept ∙ ap (λ (p : MovePath). p.end) along.is ∙ end;
           };
           is = is;
           within_cap = subst

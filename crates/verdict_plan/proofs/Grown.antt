@@ -22,15 +22,18 @@ use Rattle.train_track.specs.Refusals.{free_corners}
 use Rattle.cert_text.specs.Limits.{letter_cap}
 use Rattle.cert_text.specs.PseudoAnosov.{conjugated}
 use Rattle.cert_text.specs.declared.lines.TrackLine.{TrackLine}
+use Rattle.cert_text.specs.declared.lines.TrackLine.TheVariants.{Cap}
 use Rattle.multicurve_cert.specs.CurveAnswers.{vector_of}
 use Rattle.verdict_plan.specs.TrackAnswers.{depth_of, power_of}
 use Rattle.verdict_plan.specs.Stages.{IsStage}
 use Rattle.verdict_plan.specs.TrackTests.{IsTrackLine}
 use Rattle.verdict_plan.specs.inside.Staged.{there, IsKept, IsStageIn}
-use Rattle.verdict_plan.specs.inside.Sites.{IsTrackAt, IsBackWay, IsStanding, IsSite, AreSitesFrom, AreSites}
-use Rattle.verdict_plan.specs.inside.Sites.{IsSiteOf}
+use Rattle.verdict_plan.specs.inside.Sites.{IsTrackAt, IsBackWay, IsProgress, IsStanding, IsSite, IsSiteOf}
+use Rattle.verdict_plan.specs.inside.Sites.{AreSitesFrom, AreSites}
 use Rattle.verdict_plan.specs.inside.Turns.{AreOtherSites}
 use Rattle.verdict_plan.specs.inside.Ways.{IsWay}
+use Rattle.verdict_plan.specs.declared.progress.Progress.{Progress}
+use Rattle.verdict_plan.specs.declared.progress.Progress.TheVariants.{Taken, Past}
 use Rattle.verdict_plan.specs.declared.sites.Site.{Site}
 use Rattle.verdict_plan.specs.declared.sites.Standing.{Standing}
 use Rattle.verdict_plan.specs.declared.sites.Standing.TheVariants.{Failed, Open}
@@ -204,10 +207,16 @@ module _ (old new : Arena) (growth : GrowthLaws) (grows : Grows old new) where
             (conjugated (triangulation old 0) (moves_of old word) s.edges.items power)
             (free_corners ts s.coords.numbers) line) there_same h)
 
-        standing_kept : (times : ℕ) (standing : Standing) → IsStanding old word s times standing
-            → IsStanding new word s times standing
-        standing_kept times (Failed line) h = λ power enough. line_kept power line (h power enough)
-        standing_kept times (Open track way) h = (track_at_kept track h.0, back_way_kept times way h.1)
+        progress_kept : (power : ℕ) (progress : Progress) → IsProgress old word s power progress
+            → IsProgress new word s power progress
+        progress_kept power (Taken way times) h = (h.0, back_way_kept times way h.1)
+        progress_kept power (Past letters) h = λ any enough. line_kept any (Cap letters) (h any enough)
+
+        standing_kept : (power : ℕ) (standing : Standing) → IsStanding old word s power standing
+            → IsStanding new word s power standing
+        standing_kept power (Failed line) h = λ any. line_kept any line (h any)
+        standing_kept power (Open track progress) h =
+            (track_at_kept track h.0, progress_kept power progress h.1)
 
         pub stage_kept : (w : List ℕ) (depth : ℕ)
             → IsStageIn old (triangulation old 0) (moves_of old word) w depth s

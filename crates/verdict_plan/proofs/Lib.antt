@@ -12,6 +12,7 @@ pub mod BackWays
 pub mod Grown
 pub mod CandidateWays
 pub mod SiteTurns
+pub mod KnownLines
 pub mod TracksTried
 pub mod AnchorOutcomes
 pub mod PassColumns

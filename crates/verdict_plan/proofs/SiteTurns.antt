@@ -17,8 +17,14 @@ use Rattle.multicurve_cert.specs.CurveAnswers.{vector_of}
 use Rattle.multicurve_cert.specs.Cycles.{IsCycle, cycle_vector}
 use Rattle.verdict_plan.specs.TrackAnswers.{depth_of, power_of}
 use Rattle.verdict_plan.specs.inside.Sites.{IsSite, IsSiteOf, AreSites, AreSitesFrom, IsNextDepth, IsNextPower}
+use Rattle.verdict_plan.specs.inside.Sites.{IsProgress, IsStanding}
 use Rattle.verdict_plan.specs.inside.Turns.{AreOtherSites, IsFollowing}
+use Rattle.verdict_plan.specs.declared.progress.Progress.{Progress}
+use Rattle.verdict_plan.specs.declared.progress.Progress.TheVariants.{Taken, Past}
 use Rattle.verdict_plan.specs.declared.sites.Site.{Site}
+use Rattle.verdict_plan.specs.declared.sites.Standing.{Standing}
+use Rattle.verdict_plan.specs.declared.sites.Standing.TheVariants.{Failed, Open}
+use Rattle.verdict_plan.specs.declared.stages.Stage.{Stage}
 
 -- ---- rounds
 
@@ -38,6 +44,26 @@ power_follows arena word round old new no_fourth next w last one_more h =
     let power : 1 + last % 4 + 1 ≡ 1 + round % 4 = omega arith in
     subst (λ (d : ℕ). IsSite arena word w d (1 + round % 4) new) depth
     (subst (λ (p : ℕ). IsSite arena word w (last / 4) p new) power (next w (last / 4) (1 + last % 4) h))
+
+-- ---- one stage
+
+-- what serves for one power serves for the next
+pub progress_on : (arena : Arena) (word : MovePath) (s : Stage) (power : ℕ) (progress : Progress)
+    → IsProgress arena word s power progress → IsProgress arena word s (power + 1) progress
+progress_on arena word s power (Taken way times) h = (omega (arith, h.0), h.1)
+progress_on arena word s power (Past letters) h = λ any enough. h any (omega (arith, enough))
+
+standing_on : (arena : Arena) (word : MovePath) (s : Stage) (power : ℕ) (standing : Standing)
+    → IsStanding arena word s power standing → IsStanding arena word s (power + 1) standing
+standing_on arena word s power (Failed line) h = h
+standing_on arena word s power (Open track progress) h = (h.0, progress_on arena word s power progress h.1)
+
+pub serves_on : (arena : Arena) (word : MovePath) (site : Site) → IsNextPower arena word site site
+serves_on arena word site w depth power h = record {
+  kept = h.kept;
+  stage = h.stage;
+  standing = standing_on arena word site.stage power site.standing h.standing;
+}
 
 -- ---- candidates
 

@@ -17,6 +17,7 @@ use Rattle.tri_atlas.specs.FlipPaths.{CanBeFlipped, flipped_along}
 use Rattle.free_groupoid.specs.Walks.{DualWalk}
 use Rattle.surface_lib.specs.Surfaces.{IsLoop}
 use Rattle.train_track.specs.Branches.{words_of}
+use Rattle.multicurve_cert.specs.CurveAnswers.{vector_of}
 use Rattle.multicurve_cert.specs.Cycles.{AreCycles}
 use Rattle.cert_text.specs.Certificates.{CarriedTrack}
 use Rattle.cert_text.specs.Limits.{flip_limit, power_limit}
@@ -26,11 +27,13 @@ use Rattle.cert_text.specs.declared.lines.TrackLine.TheVariants.{NoBounds}
 use Rattle.verdict_plan.specs.Stages.{AreGreatestFlips, made, ended, flip}
 use Rattle.verdict_plan.specs.TrackAnswers.{IsFirstTrack, AreNoTracks, IsLineAt, IsStageAt, PassesAt}
 use Rattle.verdict_plan.specs.TrackAnswers.{depth_of, power_of, track_count, track_kinds}
-use Rattle.verdict_plan.specs.inside.Sites.{IsLineWith, IsSiteOf, corners_at}
-use Rattle.verdict_plan.specs.inside.Staged.{there}
+use Rattle.verdict_plan.specs.inside.Sites.{IsLineWith, IsSiteOf, IsStanding, corners_at}
+use Rattle.verdict_plan.specs.inside.Staged.{there, IsKept, IsStageIn}
 use Rattle.verdict_plan.specs.inside.Trials.{IsSoundPass, PassLaw}
-use Rattle.verdict_plan.specs.inside.Turns.{AreLines, IsPassAt}
+use Rattle.verdict_plan.specs.inside.Turns.{AreLines, IsPassAt, IsTrial}
 use Rattle.verdict_plan.specs.declared.sites.Site.{Site}
+use Rattle.verdict_plan.specs.declared.stages.Stage.{Stage}
+use Rattle.verdict_plan.specs.declared.trials.Trial.{Trial}
 use Rattle.verdict_plan.proofs.Grown.{here_before}
 
 -- as many flips as the depth, or fewer
@@ -102,6 +105,25 @@ module _ (arena : Arena) (word : MovePath) (cycles : List (List ℤ)) (n : ℕ) 
         law triples moves (corners_at arena site.stage) c positive within (few some below) flippable
         (subst (λ (ts : List (List ℤ)). IsSoundPass ts (track_path triples moves c) (corners_at arena site.stage) c)
         leads sound)
+
+-- its site once it is tried
+pub site_tried : (arena : Arena) (word : MovePath) (walks : List DualWalk) (n : ℕ) (site : Site)
+    → IsSiteOf arena word (words_of walks) n site → (trial : Trial)
+    → IsTrial arena word site.stage (1 + (n / length walks) % 4) trial
+    → IsSiteOf arena word (words_of walks) n trial.site
+site_tried arena word walks n site at trial tried =
+    let words : List (List ℤ) = words_of walks in
+    let many : length words ≡ length walks = length-map walks (λ (v : DualWalk). v.letters) in
+    let same : site.stage ≡ trial.site.stage = sym tried.stage in
+    let stands : IsStanding arena word site.stage (power_of words n) trial.site.standing =
+    subst (λ (m : ℕ). IsStanding arena word site.stage (1 + (n / m) % 4) trial.site.standing) (sym many)
+    tried.standing in record {
+      kept = subst (IsKept arena) same at.kept;
+      stage = subst
+          (IsStageIn arena (triangulation arena 0) (moves_of arena word)
+          (vector_of (triangulation arena 0) words n) (depth_of words n)) same at.stage;
+      standing = subst (λ (s : Stage). IsStanding arena word s (power_of words n) trial.site.standing) same stands;
+    }
 
 -- ---- all candidates
 

@@ -3,9 +3,10 @@
 -- A train path begins and ends with the letters that the ends of its branch go to. The ends of a branch are labels of
 -- switches. The label of a switch that isn't negative is listed, and beside it stands the label of a switch; its
 -- inverse goes to the inverse of that, which is a label of the same edge.
-use Rattle.std.proofs.Common.{◌≡◌, ◌<◌, ◌≤◌, ◌||◌, ◌++◌, ℕ, zero, suc, ℤ, pos, negsuc, Bool, true, false, List, [], inl, inr}
+use Rattle.std.proofs.Common.{◌≡◌, ◌<◌, ◌≤◌, ◌++◌, ℕ, zero, suc, ℤ, pos, negsuc, Bool, true, false, List, [], inl, inr}
 use Rattle.std.proofs.Common.{◌∷◌, length, map, refl, sym, ◌∙◌, ap, subst, arith, get_or, if◌then◌else◌}
 use Rattle.std.specs.List.{Contains, filter, range_with_len}
+use Rattle.std.proofs.Math.Bool.{or_comm}
 use Rattle.std.proofs.lemmas.Bool.{cases_Bool, cond-true, cond-false}
 use Rattle.std.proofs.lemmas.List.{get_or-map, length-map}
 use Rattle.std.proofs.lemmas.List.FromFn.{get_or-map-range_with_len, length-map-range_with_len}
@@ -25,18 +26,17 @@ use Rattle.verdict_plan.specs.inside.Trials.{CanBeCounted, IsCarriedAlong}
 
 -- ---- the ends of a branch
 
-last_of-end : (x : ℤ) (w : List ℤ) (z : ℤ) → last_of x (w ++ (z ∷ [])) ≡ z
-last_of-end x [] z = refl
-last_of-end x (y ∷ w) z = last_of-end y w z
-
-last_label : (ts : List (List ℤ)) (s t : ℕ) (w : List ℤ) (z : ℤ) → IsWalk ts s (w ++ (z ∷ [])) t → IsLabel ts z
-last_label ts s t [] z walk = walk.0
-last_label ts s t (x ∷ w) z walk = last_label ts (triangle_of ts (inverse x)) t w z walk.2
-
 -- the label of a switch
 record IsSwitchLabel (ts : List (List ℤ)) (out : List ℤ) (x : ℤ) : Type 0 where
   label : IsLabel ts x
   switch : is_switch ts out x ≡ true
+
+-- a walk that ends across a switch has its label last
+last_label : (ts : List (List ℤ)) (out : List ℤ) (s t : ℕ) (x : ℤ) (w : List ℤ) (z : ℤ) → is_switch ts out z ≡ true
+    → IsWalk ts s (x ∷ (w ++ (z ∷ []))) t → IsSwitchLabel ts out (last_of x (w ++ (z ∷ [])))
+last_label ts out s t x [] z switch walk = record { label = walk.2.0; switch = switch }
+last_label ts out s t x (y ∷ w) z switch walk =
+    last_label ts out (triangle_of ts (inverse x)) t y w z switch walk.2
 
 module _ (ts : List (List ℤ)) (out : List ℤ) (b : List ℤ) (is : IsBranch ts out b) where
   walk_is : IsWalk ts (triangle_of ts is.first) ((is.first ∷ is.between) ++ (is.last ∷ []))
@@ -52,25 +52,16 @@ module _ (ts : List (List ℤ)) (out : List ℤ) (b : List ℤ) (is : IsBranch t
 
   ends_at : IsSwitchLabel ts out (final b)
   ends_at =
-      subst (IsSwitchLabel ts out) (sym (ap final is.letters ∙ last_of-end is.first is.between is.last))
-      (record {
-        label = last_label ts (triangle_of ts is.first) (triangle_of ts (inverse is.last)) (is.first ∷ is.between)
-            is.last walk_is;
-        switch = is.ends;
-      })
+      subst (IsSwitchLabel ts out) (sym (ap final is.letters))
+      (last_label ts out (triangle_of ts is.first) (triangle_of ts (inverse is.last)) is.first is.between is.last is.ends
+      walk_is)
 
 -- ---- where the label of a switch goes
 
-or_turned : (a b : Bool) → (a || b) ≡ (b || a)
-or_turned true true = refl
-or_turned true false = refl
-or_turned false true = refl
-or_turned false false = refl
-
 switch_inverse : (ts : List (List ℤ)) (out : List ℤ) (x : ℤ) → is_switch ts out (inverse x) ≡ is_switch ts out x
 unfolding is_switch
-switch_inverse ts out (pos n) = or_turned (is_fork ts out (negsuc n)) (is_fork ts out (pos n))
-switch_inverse ts out (negsuc n) = or_turned (is_fork ts out (pos n)) (is_fork ts out (negsuc n))
+switch_inverse ts out (pos n) = or_comm (is_fork ts out (negsuc n)) (is_fork ts out (pos n))
+switch_inverse ts out (negsuc n) = or_comm (is_fork ts out (pos n)) (is_fork ts out (negsuc n))
 
 kept : (p : ℤ → Bool) (xs : List ℤ) (x : ℤ) → Contains xs x → p x ≡ true → Contains (filter p xs) x
 kept p [] x (k, less, e) h = absurd (omega arith)

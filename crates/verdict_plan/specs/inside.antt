@@ -1,3 +1,4 @@
+pub mod Known
 pub mod Sites
 pub mod Staged
 pub mod Trials

@@ -17,14 +17,17 @@
 
 mod budget;
 mod certificates;
+mod known;
 mod plan;
 mod power_phase;
+mod progress;
 mod sites;
 mod stages;
 mod track_certificate;
 mod track_growth;
 mod track_search;
 mod track_tests;
+mod trials;
 mod ways;
 
 pub use budget::Budget;

@@ -46,3 +46,12 @@ fn first_passes(rt: HostRuntime) -> Result<(), Fail> {
     }
     Ok(())
 }
+
+/// The map has 241,355 letters, below the cap, and the train paths of the carried track have more
+/// than the cap together.
+#[test]
+fn long_train_paths(rt: HostRuntime) -> Result<(), Fail> {
+    let line = TrackLine::PathsCap { n: 269_848 };
+    assert!(rt; all_fail(&rt, "(a.b)^10.b^6", 1, line)?);
+    Ok(())
+}

@@ -24,7 +24,7 @@ use flip_move::{FlipError, flip};
 use ideal_tri::{Label, Memory, Tri, flip_laws, label_laws, surface_laws};
 use multicurve_cert::power_laws;
 use std::alloc::Global;
-use tri_atlas::{Atlas, EdgeId, MoveId, Path, TriId, atlas_laws, vector_laws};
+use tri_atlas::{Atlas, EdgeId, MoveId, Path, TriId, atlas_laws, map_laws, vector_laws};
 
 /// The most times that the word is taken.
 const IMAGE_LIMIT: u32 = 12;
@@ -229,6 +229,7 @@ fn flip_law(tri: &Tri, w: &[u128], e: u32)
     let _ = tri.edges();
     label_laws();
     surface_laws();
+    map_laws();
     vector_laws();
 }
 

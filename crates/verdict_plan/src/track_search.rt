@@ -2,7 +2,7 @@
 //!
 //! One candidate after another of a cycle is the next power of the word at the same stage, or the
 //! first at the next stage. The cycles take turns, so the sites of the last candidates wait in a
-//! queue, one for each cycle.
+//! queue, one for each cycle. A candidate that is like an earlier one of another cycle has its line.
 ghost use Rattle.std.specs.Prelude.{◌≡◌, ◌<◌, ◌*◌, ◌+◌, ◌%◌, ◌/◌, length, min, IfOk, OnOk};
 ghost use Rattle.tri_atlas.specs.Arena.{Grows, triangulation};
 ghost use Rattle.tri_atlas.specs.Paths.{moves_of};
@@ -10,23 +10,18 @@ ghost use Rattle.train_track.specs.Branches.{words_of};
 ghost use Rattle.multicurve_cert.specs.Cycles.{AreCycles};
 ghost use Rattle.surface_lib.specs.Surfaces.{IsLoop};
 ghost use Rattle.verdict_plan.specs.TrackAnswers.{HoldsWhereFound, IsTracksAnswer, track_kinds};
-ghost use Rattle.verdict_plan.specs.inside.Sites.{AreSites, IsSiteOf, IsStanding};
-ghost use Rattle.verdict_plan.specs.inside.Staged.{IsKept};
-ghost use Rattle.verdict_plan.specs.inside.Turns.{AreOtherSites, IsFollowing, IsOutcomeAt};
-ghost use Rattle.verdict_plan.specs.inside.Turns.{IsSomeSite};
-ghost use Rattle.verdict_plan.specs.inside.Sites.{IsBackWay, IsTrackAt};
+ghost use Rattle.verdict_plan.specs.inside.Sites.{AreSites, IsSiteOf};
+ghost use Rattle.verdict_plan.specs.inside.Turns.{AreOtherSites, IsFollowing, IsSomeSite};
 
-use crate::sites::{Site, Standing, first_site, next_depth, next_power};
-use crate::stages::Stage;
-use crate::track_tests::{pass_law, try_map};
-use crate::ways::{Way, copied, go_on};
+use crate::sites::{Site, first_site, next_depth};
+use crate::track_tests::pass_law;
+use crate::trials::{Trial, try_site};
 use cert_text::{Pa, TrackLine};
-use free_groupoid::{Walk, periodic_laws};
+use free_groupoid::Walk;
 use ideal_tri::Memory;
 use multicurve_cert::{cycle_coords, cycles};
 use std::alloc::Global;
 use std::collections::VecDeque;
-use train_track::Track;
 use tri_atlas::{Atlas, Path, atlas_laws};
 
 /// How many candidates there are for each cycle: 32 depths with 4 powers each.
@@ -96,12 +91,15 @@ fn search_along(
     pass_law();
     let count = track_count(cycles.len(), budget);
     let mut sites = VecDeque::new(alloc);
+    let mut known = Vec::new(alloc);
     let mut log = Vec::new(alloc);
     // n candidates fail
     for n in 0..count {
         let site = next_site(alloc, atlas, word, cycles, n as usize, &mut sites)?;
         let power = 1 + (n as usize / cycles.len()) % POWERS;
-        match try_site(alloc, atlas, word, &site, power as u32)? {
+        let trial = try_site(alloc, atlas, word, site, power as u32, &mut known)?;
+        let Trial { site, outcome } = trial;
+        match outcome {
             Ok(pa) => return Ok(Tracks::Found { number: n, pa }),
             Err(line) => log.push(line)?,
         }
@@ -157,54 +155,7 @@ fn following(
     if round % POWERS == 0 {
         next_depth(alloc, atlas, word, site)
     } else {
-        next_power(atlas, word, site)
-    }
-}
-
-/// What the tests give for the candidate with this power at its site.
-fn try_site(
-    alloc: Global,
-    atlas: &Atlas,
-    word: &Path,
-    site: &Site,
-    power: u32,
-) -> Result<Result<Pa, TrackLine>, Memory>
-    requires closed { IsLoop atlas.now word.now }
-    requires kept { IsKept atlas.now site.now.stage }
-    requires standing { IsStanding atlas.now word.now site.now.stage power site.now.standing }
-    ensures { IfOk result (IsOutcomeAt atlas.now word.now site.now.stage power) }
-{
-    match &site.standing {
-        Standing::Failed(line) => Ok(Err(*line)),
-        Standing::Open { track, way } => {
-            try_open(alloc, atlas, word, &site.stage, track, way, power)
-        }
-    }
-}
-
-/// The same where no test fails that the candidates of the stage share.
-fn try_open(
-    alloc: Global,
-    atlas: &Atlas,
-    word: &Path,
-    stage: &Stage,
-    track: &Track,
-    way: &Way,
-    power: u32,
-) -> Result<Result<Pa, TrackLine>, Memory>
-    requires closed { IsLoop atlas.now word.now }
-    requires kept { IsKept atlas.now stage.now }
-    requires track { IsTrackAt atlas.now stage.now track.now }
-    requires way { IsBackWay atlas.now word.now stage.now power way.now }
-    ensures { IfOk result (IsOutcomeAt atlas.now word.now stage.now power) }
-{
-    let _ = atlas.base();
-    atlas_laws();
-    periodic_laws();
-    let way = copied(alloc, atlas, way)?;
-    match go_on(atlas, way, &stage.path)? {
-        Ok(way) => try_map(alloc, atlas, track, &way.map, power, &stage.edges),
-        Err(n) => Ok(Err(TrackLine::Cap { n })),
+        Ok(site)
     }
 }
 

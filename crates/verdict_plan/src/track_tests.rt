@@ -21,7 +21,7 @@ use ideal_tri::{Memory, label_laws};
 use std::alloc::Global;
 use train_track::{Track, TrackError};
 use transition_matrix::matrix_laws;
-use tri_atlas::{Atlas, Path, atlas_laws, map_laws};
+use tri_atlas::{Atlas, Path, map_laws};
 
 /// The most letters of a map after a move, and of the walks and train paths of a carried track.
 const LETTER_CAP: u64 = 262_144;
@@ -164,7 +164,6 @@ fn map_of(
         (moves_of atlas.now path.now) track.now.left_out)) }
 {
     let _ = atlas.base();
-    atlas_laws();
     periodic_laws();
     let mut psi = Map::identity(alloc, atlas, track.tri())?;
     match psi.follow_path(atlas, path, LETTER_CAP) {

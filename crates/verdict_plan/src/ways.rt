@@ -7,7 +7,7 @@ ghost use Rattle.verdict_plan.specs.inside.Ways.{IsWay, IsWayAlong, IsPast};
 use free_groupoid::{Map, MapError, groupoid_laws, periodic_laws};
 use ideal_tri::Memory;
 use std::alloc::Global;
-use tri_atlas::{Atlas, Path, TriId, atlas_laws};
+use tri_atlas::{Atlas, Path, TriId};
 
 /// The most letters of a map after a move.
 const LETTER_CAP: u64 = 262_144;
@@ -59,7 +59,6 @@ pub(crate) fn go_on(atlas: &Atlas, way: Way, p: &Path) -> Result<Result<Way, u64
     ensures past { IfOk result (λ r. IfErr r (IsPast atlas.now (joined way.path p.now))) }
 {
     let _ = atlas.base();
-    atlas_laws();
     periodic_laws();
     let Way { mut path, mut map } = way;
     path.append(p)?;

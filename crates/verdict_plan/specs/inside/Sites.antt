@@ -10,10 +10,13 @@ use Rattle.train_track.specs.Refusals.{free_corners}
 use Rattle.multicurve_cert.specs.CurveAnswers.{vector_of}
 use Rattle.cert_text.specs.PseudoAnosov.{conjugated}
 use Rattle.cert_text.specs.declared.lines.TrackLine.{TrackLine}
+use Rattle.cert_text.specs.declared.lines.TrackLine.TheVariants.{Cap}
 use Rattle.verdict_plan.specs.TrackAnswers.{depth_of, power_of}
 use Rattle.verdict_plan.specs.TrackTests.{IsTrackLine}
 use Rattle.verdict_plan.specs.inside.Staged.{there, IsKept, IsStageIn}
 use Rattle.verdict_plan.specs.inside.Ways.{IsWay}
+use Rattle.verdict_plan.specs.declared.progress.Progress.{Progress}
+use Rattle.verdict_plan.specs.declared.progress.Progress.TheVariants.{Taken, Past}
 use Rattle.verdict_plan.specs.declared.sites.Site.{Site}
 use Rattle.verdict_plan.specs.declared.sites.Standing.{Standing}
 use Rattle.verdict_plan.specs.declared.sites.Standing.TheVariants.{Failed, Open}
@@ -51,18 +54,28 @@ pub record IsBackWay (arena : Arena) (word : MovePath) (s : Stage) (times : ℕ)
   pub moves : moves_of arena way.path
       ≡ back_along (moves_of arena s.path) ++ repeat times (moves_of arena word)
 
--- after the word so many times: the track and the way, or the line of all candidates with so high a
--- power
-abbrev pub IsStanding : Arena → MovePath → Stage → ℕ → Standing → Type 0
-IsStanding arena word s times (Failed line) =
-    (power : ℕ) → times ≤ power → IsLineWith arena word s power line
-IsStanding arena word s times (Open track way) =
-    IsTrackAt arena s track × IsBackWay arena word s times way
+-- all candidates with so high a power pass the cap, with so many letters
+abbrev pub IsPastFrom : Arena → MovePath → Stage → ℕ → ℕ → Type 0
+IsPastFrom arena word s least letters =
+    (power : ℕ) → least ≤ power → IsLineWith arena word s power (Cap letters)
 
--- however they stood, it is after the word once more
-abbrev pub IsOnceMore : Arena → MovePath → Stage → Standing → Standing → Type 0
-IsOnceMore arena word s old new =
-    (times : ℕ) → IsStanding arena word s times old → IsStanding arena word s (times + 1) new
+-- the word is taken no more often than the power says
+abbrev pub IsProgress : Arena → MovePath → Stage → ℕ → Progress → Type 0
+IsProgress arena word s power (Taken way times) = (times ≤ power) × IsBackWay arena word s times way
+IsProgress arena word s power (Past letters) = IsPastFrom arena word s power letters
+
+-- or as often
+abbrev pub IsProgressAt : Arena → MovePath → Stage → ℕ → Progress → Type 0
+IsProgressAt arena word s power (Taken way times) =
+    (times ≡ power) × IsBackWay arena word s power way
+IsProgressAt arena word s power (Past letters) = IsPastFrom arena word s power letters
+
+-- before the candidate with this power: the track and how often the word is taken, or the line of all
+-- candidates
+abbrev pub IsStanding : Arena → MovePath → Stage → ℕ → Standing → Type 0
+IsStanding arena word s power (Failed line) = (any : ℕ) → IsLineWith arena word s any line
+IsStanding arena word s power (Open track progress) =
+    IsTrackAt arena s track × IsProgress arena word s power progress
 
 -- ---- one cycle
 
@@ -80,7 +93,7 @@ IsFirstPower arena word s site =
     → IsStageIn arena (triangulation arena 0) (moves_of arena word) w depth s
     → IsSite arena word w depth 1 site
 
--- whatever site it was, it is the next of its stage
+-- whatever site it was, it serves for the next candidate of its stage too
 abbrev pub IsNextPower : Arena → MovePath → Site → Site → Type 0
 IsNextPower arena word old new =
     (w : List ℕ) (depth power : ℕ) → IsSite arena word w depth power old

@@ -8,11 +8,13 @@ use Rattle.cert_text.specs.Certificates.{CarriedTrack, track_seen}
 use Rattle.cert_text.specs.declared.carried_track.Pa.{Pa}
 use Rattle.cert_text.specs.declared.lines.TrackLine.{TrackLine}
 use Rattle.verdict_plan.specs.TrackAnswers.{IsLineAt}
-use Rattle.verdict_plan.specs.inside.Sites.{IsLineWith, IsSite, AreSitesFrom, corners_at, path_at}
+use Rattle.verdict_plan.specs.inside.Sites.{IsLineWith, IsSite, IsStanding, AreSitesFrom}
+use Rattle.verdict_plan.specs.inside.Sites.{corners_at, path_at}
 use Rattle.verdict_plan.specs.inside.Trials.{IsSoundPass}
 use Rattle.verdict_plan.specs.inside.Staged.{there}
 use Rattle.verdict_plan.specs.declared.sites.Site.{Site}
 use Rattle.verdict_plan.specs.declared.stages.Stage.{Stage}
+use Rattle.verdict_plan.specs.declared.trials.Trial.{Trial}
 
 -- the site of some candidate
 pub record IsSomeSite (arena : Arena) (word : MovePath) (site : Site) : Type 0 where
@@ -46,6 +48,13 @@ pub record IsPassAt (arena : Arena) (word : MovePath) (s : Stage) (power : ℕ) 
 abbrev pub IsOutcomeAt : Arena → MovePath → Stage → ℕ → Result Pa TrackLine → Type 0
 IsOutcomeAt arena word s power (Ok pa) = IsPassAt arena word s power (track_seen pa)
 IsOutcomeAt arena word s power (Err line) = IsLineWith arena word s power line
+
+-- the candidate with this power at the stage was tried
+pub record IsTrial (arena : Arena) (word : MovePath) (s : Stage) (power : ℕ) (trial : Trial)
+    : Type 0 where
+  pub stage : trial.site.stage ≡ s
+  pub standing : IsStanding arena word s power trial.site.standing
+  pub outcome : IsOutcomeAt arena word s power trial.outcome
 
 -- the first n candidates have these lines
 pub record AreLines (triples : List (List ℤ)) (moves : List Move) (cycles : List (List ℤ)) (n : ℕ)

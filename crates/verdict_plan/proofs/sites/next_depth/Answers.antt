@@ -9,7 +9,7 @@ use Rattle.verdict_plan.proofs.sites.next_depth.Goals as goal
 pub returns-clause-next : goal.returns-clause-next
 returns-clause-next c =
     IfOk-weaker c.first_power.result _ _
-    (λ site first w depth power h. first w (depth + 1)
+    (λ site first w depth power h. first c.args.word.now w (depth + 1)
     (here_too c.args.atlas.now c.deepen.new.atlas c.atlas_laws.ensures.growth c.deepen.ensures.grows
     c.atlas_laws.ensures.handles c.base.ensures.sound c.args.word.now c.requires.closed
     (λ ts ms. IsStageIn c.deepen.new.atlas ts ms w (depth + 1) c.deepen.new.stage)

@@ -1,5 +1,5 @@
 use Rattle.std.proofs.lemmas.Result.{IfOk-weaker}
-use Rattle.verdict_plan.proofs.SiteTurns.{deeper_follows, power_follows}
+use Rattle.verdict_plan.proofs.SiteTurns.{deeper_follows, power_follows, serves_on}
 use Rattle.verdict_plan.proofs.track_search.following.Goals as goal
 
 pub returns-then-round-eq0-clause-next : goal.returns-then-round-eq0-clause-next
@@ -11,6 +11,5 @@ returns-then-round-eq0-clause-next c =
 
 pub returns-else-round-eq0-clause-next : goal.returns-else-round-eq0-clause-next
 returns-else-round-eq0-clause-next c =
-    IfOk-weaker c.next_power.result _ _
-    (λ new. power_follows c.args.atlas.now c.args.word.now c.args.round c.args.site new c.if-round-eq0.false)
-    c.next_power.ensures
+    power_follows c.args.atlas.now c.args.word.now c.args.round c.args.site c.args.site c.if-round-eq0.false
+    (serves_on c.args.atlas.now c.args.word.now c.args.site)

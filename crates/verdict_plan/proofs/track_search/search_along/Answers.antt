@@ -7,9 +7,10 @@ use Rattle.train_track.specs.Branches.{words_of}
 use Rattle.multicurve_cert.specs.Cycles.{AreCycles}
 use Rattle.cert_text.specs.Certificates.{track_seen}
 use Rattle.verdict_plan.specs.TrackAnswers.{track_count, track_kinds}
-use Rattle.verdict_plan.proofs.Grown.{base_same, loop_kept}
+use Rattle.verdict_plan.specs.inside.Known.{AreKnown}
+use Rattle.verdict_plan.proofs.Grown.{base_same, loop_kept, here_too, here_before}
 use Rattle.verdict_plan.proofs.SiteTurns.{sites_more}
-use Rattle.verdict_plan.proofs.TracksTried.{first_track, holds_tried, line_tried, lines_more, passes_tried}
+use Rattle.verdict_plan.proofs.TracksTried.{first_track, holds_tried, line_tried, lines_more, passes_tried, site_tried}
 use Rattle.verdict_plan.proofs.track_search.search_along.Goals as goal
 
 pub returns-in-Ok-clause-answer : goal.returns-in-Ok-clause-answer
@@ -18,7 +19,8 @@ returns-in-Ok-clause-answer c =
     c.atlas_laws.ensures.growth.further _ _ _ c.loop-n.invariant.grows c.in_ok-site.ensures.grows in
     let words : List (List ℤ) = words_of c.args.cycles.now in
     let many : length words ≡ length c.args.cycles.now = length-map c.args.cycles.now (λ (v : DualWalk). v.letters) in
-    let pass = rw c.in-Ok.is at c.in_ok-pa.ensures in
+    let tried = c.in_ok-trial.ensures.trial.outcome in
+    let pass = rw c.in-Ok.is at tried in
     let within : c.loop-n.n < track_count words c.args.budget =
     subst (λ (m : ℕ). c.loop-n.n < min c.args.budget (track_kinds * m)) (sym many)
     (subst (λ (m : ℕ). c.loop-n.n < m) c.track_count-count.ensures c.loop-n-test.true) in
@@ -32,7 +34,8 @@ pub returns-in-Ok-clause-holds : goal.returns-in-Ok-clause-holds
 returns-in-Ok-clause-holds c =
     let grown : Grows c.args.atlas.now c.next_site.new.atlas =
     c.atlas_laws.ensures.growth.further _ _ _ c.loop-n.invariant.grows c.in_ok-site.ensures.grows in
-    let pass = rw c.in-Ok.is at c.in_ok-pa.ensures in
+    let tried = c.in_ok-trial.ensures.trial.outcome in
+    let pass = rw c.in-Ok.is at tried in
     let few : c.loop-n.n < min c.args.budget (track_kinds * length c.args.cycles.now) =
     subst (λ (m : ℕ). c.loop-n.n < m) c.track_count-count.ensures c.loop-n-test.true in
     let below : c.loop-n.n < track_kinds * length c.args.cycles.now = omega (arith, few) in
@@ -49,7 +52,8 @@ loop-n-preserved c =
     let grown : Grows c.args.atlas.now c.next_site.new.atlas =
     c.atlas_laws.ensures.growth.further _ _ _ c.loop-n.invariant.grows c.in_ok-site.ensures.grows in
     let words : List (List ℤ) = words_of c.args.cycles.now in
-    let line = rw c.in-Err.is at c.in_ok-pa.ensures in
+    let tried = c.in_ok-trial.ensures.trial.outcome in
+    let line = rw c.in-Err.is at tried in
     record {
       grows = grown;
       closed = loop_kept c.args.atlas.now c.next_site.new.atlas c.atlas_laws.ensures.growth grown
@@ -58,8 +62,13 @@ loop-n-preserved c =
           (base_same c.args.atlas.now c.next_site.new.atlas c.atlas_laws.ensures.growth grown
           c.atlas_laws.ensures.handles c.base.ensures.sound c.args.word.now c.requires.closed) c.requires.cycles;
       sites = sites_more c.next_site.new.atlas c.args.word.now words c.loop-n.n c.next_site.new.sites.items
-          c.in_ok-site.site c.push_back.new.self.items c.in_ok-site.ensures.sites c.in_ok-site.ensures.site
+          c.in_ok-trial.trial.site c.push_back.new.self.items c.in_ok-site.ensures.sites
+          (site_tried c.next_site.new.atlas c.args.word.now c.args.cycles.now c.loop-n.n c.in_ok-site.site
+          c.in_ok-site.ensures.site c.in_ok-trial.trial c.in_ok-trial.ensures.trial)
           c.in_ok-push_back.ensures.items;
+      known = here_before c.args.atlas.now c.next_site.new.atlas c.atlas_laws.ensures.growth grown
+          c.atlas_laws.ensures.handles c.base.ensures.sound c.args.word.now c.requires.closed
+          (λ ts ms. AreKnown ts ms c.try_site.new.known.items) c.in_ok-trial.ensures.known;
       lines = lines_more (triangulation c.args.atlas.now 0) (moves_of c.args.atlas.now c.args.word.now) words c.loop-n.n
           c.loop-n.log.items c.loop-n.invariant.lines c.in-Err.line c.push.new.self.items
           (line_tried c.args.atlas.now c.next_site.new.atlas c.atlas_laws.ensures.growth grown
@@ -67,3 +76,11 @@ loop-n-preserved c =
           c.loop-n.n c.in_ok-site.site c.in_ok-site.ensures.site c.in-Err.line line)
           c.in_ok-push-in-Err.ensures.items;
     }
+
+pub try_site-requires-clause-known : goal.try_site-requires-clause-known
+try_site-requires-clause-known c =
+    let grown : Grows c.args.atlas.now c.next_site.new.atlas =
+    c.atlas_laws.ensures.growth.further _ _ _ c.loop-n.invariant.grows c.in_ok-site.ensures.grows in
+    here_too c.args.atlas.now c.next_site.new.atlas c.atlas_laws.ensures.growth grown
+    c.atlas_laws.ensures.handles c.base.ensures.sound c.args.word.now c.requires.closed
+    (λ ts ms. AreKnown ts ms c.loop-n.known.items) c.loop-n.invariant.known

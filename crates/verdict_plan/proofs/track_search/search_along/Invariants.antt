@@ -3,6 +3,7 @@ use Rattle.tri_atlas.specs.Paths.{moves_of}
 use Rattle.surface_lib.specs.Surfaces.{IsLoop}
 use Rattle.train_track.specs.Branches.{words_of}
 use Rattle.multicurve_cert.specs.Cycles.{AreCycles}
+use Rattle.verdict_plan.specs.inside.Known.{AreKnown}
 use Rattle.verdict_plan.specs.inside.Sites.{AreSites}
 use Rattle.verdict_plan.specs.inside.Turns.{AreLines}
 use Rattle.verdict_plan.proofs.track_search.search_along.Given as goal
@@ -13,5 +14,6 @@ invariant-loop-n l = record {
   closed : IsLoop l.atlas l.word;
   cycles : AreCycles (triangulation l.atlas 0) (words_of l.cycles);
   sites : AreSites l.atlas l.word (words_of l.cycles) l.n l.sites.items;
+  known : AreKnown (triangulation l.fn.atlas 0) (moves_of l.fn.atlas l.word) l.known.items;
   lines : AreLines (triangulation l.fn.atlas 0) (moves_of l.fn.atlas l.word) (words_of l.cycles) l.n l.log.items;
 }

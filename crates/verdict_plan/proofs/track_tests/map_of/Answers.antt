@@ -24,7 +24,7 @@ returns-in-Err-CapPassed-clause-line c =
     c.in_ok-psi.ensures.value ∙ ap (identity_map c.args.atlas.now) c.tri.ensures in
     rw c.in-Err-CapPassed.letters-is
     (told_cap c.args.atlas.now c.periodic_laws.ensures.found c.base.ensures.sound c.args.track.now c.args.path.now
-    c.requires c.follow_path.new.self c.atlas_laws.ensures.handles c.in-Err-CapPassed.letters
+    c.requires c.follow_path.new.self c.in-Err-CapPassed.letters
     (subst (λ (f : GroupoidMap). IsPathRefusal c.args.atlas.now f c.follow_path.new.self c.args.path.now.moves
     letter_cap (CapPassed c.in-Err-CapPassed.letters)) begins
     (rw c.in-Err-CapPassed.field-0-is at c.in-Err-CapPassed.ensures.refused)))

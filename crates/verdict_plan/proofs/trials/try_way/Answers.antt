@@ -4,7 +4,7 @@ use Rattle.tri_atlas.specs.Paths.{MovePath, joined}
 use Rattle.verdict_plan.specs.inside.Trials.{IsMapAlong}
 use Rattle.verdict_plan.specs.inside.Ways.{IsWayAlong, IsPast}
 use Rattle.verdict_plan.proofs.CandidateWays.{candidate_map, outcome, line_whole}
-use Rattle.verdict_plan.proofs.track_search.try_open.Goals as goal
+use Rattle.verdict_plan.proofs.trials.try_way.Goals as goal
 
 pub try_map-requires : goal.try_map-requires
 try_map-requires c = (
