@@ -1,0 +1,7 @@
+pub mod FirstFailing
+pub mod PeriodicRules
+pub mod VectorRules
+pub mod TrackRules
+pub mod TrackRefusals
+pub mod Verdicts
+pub mod inside
