@@ -61,8 +61,9 @@ fn run_words<R: Files, O: Write + Drop, E: Write + Drop>(
     ensures usage { exit_status result ≡ 2 → command (drop 1 all.now) ≡ None }
     ensures unfit { command (drop 1 all.now) ≡ None
         → (exit_status result ≡ 2) ⊎ (exit_status result ≡ 4) }
-    ensures headline { exit_status result ≡ 0 → (files : FilesOf) × (printed : List ℕ)
-        × IsHeadline (command (drop 1 all.now)) files printed }
+    ensures headline { exit_status result ≡ 0
+        → (files : FilesOf) × (later : FilesOf) × (printed : List ℕ)
+        × IsHeadline (command (drop 1 all.now)) files later printed }
 {
     let words = words_after_name(all);
     let mut shelf = DirShelf::new(rt, words);

@@ -17,6 +17,8 @@ pub mod Shown
 -- a whole run
 pub mod Budgets
 pub mod Found
+pub mod Held
+pub mod FileReads
 pub mod Twisted
 pub mod Answered
 pub mod Runs

@@ -18,7 +18,8 @@ many name (a ∷ (b ∷ [])) long other = absurd (omega (arith, long))
 many name (a ∷ (b ∷ (c ∷ []))) long other = absurd (omega (arith, long))
 many name (a ∷ (b ∷ (c ∷ (d ∷ words)))) long other =
     rw other
-    (either (bytes_eq name (codes "image")) _ (either (bytes_eq name (codes "twist")) None refl))
+    (either (bytes_eq name (codes "image")) _
+    (either (bytes_eq name (codes "twist")) _ (either (bytes_eq name (codes "check")) None refl)))
 
 -- more words than three behind a name that isn't `classify`
 pub too_many : (words : List (String Global)) (name none : String Global) → 5 ≤ length words

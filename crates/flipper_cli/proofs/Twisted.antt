@@ -17,7 +17,7 @@ use Rattle.twist_compile.specs.declared.twist_path.TwistParts.{TwistParts}
 use Rattle.flipper_cli.specs.Headline.{AreTwistSteps}
 use Rattle.flipper_cli.specs.RefusalCauses.{for_twist}
 use Rattle.flipper_cli.specs.Report.{IsTwistReport, IsVectorReport}
-use Rattle.flipper_cli.specs.Run.{shown}
+use Rattle.flipper_cli.specs.inside.Shown.{shown}
 use Rattle.flipper_cli.specs.Twists.{twist_lines}
 use Rattle.flipper_cli.specs.declared.refusal.Refusal.{Refusal}
 use Rattle.flipper_cli.specs.declared.refusal.Refusal.TheVariants.{Memory}

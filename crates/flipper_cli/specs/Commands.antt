@@ -1,4 +1,4 @@
--- The words of the command line, and the names of files that a command reads.
+-- The words of the command line, and where the surface of a command comes from.
 use Rattle.std.specs.Prelude.{◌≡◌, ◌&&◌, ◌==◌, ℕ, List, [], ◌∷◌, Option, Some, None, Bool, true}
 use Rattle.std.specs.Prelude.{not, map, String, string_bytes, codes, if◌then◌else◌}
 use Rattle.std.specs.Option.{option_map}
@@ -20,8 +20,9 @@ pub data Command : Type 0 where
   image : (source : Source) (word coordinates : List ℕ) → Command
   twist : (source : Source) (coordinates : List ℕ) (hand : Hand) → Command
   classify : (source : Source) (word : List ℕ) (budget : Budget) → Command
+  check : (source : Source) (word certificate : List ℕ) → Command
 
--- a text that may stand in the place of FILE, WORD or COORDS: it doesn't begin with `-`
+-- a text that may stand in the place of FILE, WORD, COORDS or CERT: it doesn't begin with `-`
 abbrev pub is_argument : List ℕ → Bool
 is_argument [] = true
 is_argument (c ∷ text) = not (c == 45)
@@ -62,8 +63,20 @@ classify_command source word options =
     then option_map (classify (source_of source) word) (budget_of options)
     else None
 
+-- CERT is always a file's name, also where it begins with `@`
+abbrev pub check_command : List ℕ → List ℕ → List ℕ → Option Command
+check_command source word certificate =
+    if is_argument source && (is_argument word && is_argument certificate)
+    then Some (check (source_of source) word certificate)
+    else None
+
+-- just one word behind FILE and WORD
+abbrev pub check_with : List ℕ → List ℕ → List (List ℕ) → Option Command
+check_with source word (certificate ∷ []) = check_command source word certificate
+check_with source word _ = None
+
 -- the command that the words fit: `show FILE`, `image FILE WORD COORDS`, `twist FILE COORDS HAND`,
--- or `classify FILE WORD` and options
+-- `classify FILE WORD` and options, or `check FILE WORD CERT`
 abbrev pub command_named : List ℕ → List (List ℕ) → Option Command
 command_named name (source ∷ []) =
     if bytes_eq name (codes "show") then show_command source else None
@@ -71,6 +84,7 @@ command_named name (source ∷ (word ∷ options)) =
     if bytes_eq name (codes "classify") then classify_command source word options
     else if bytes_eq name (codes "image") then image_with source word options
     else if bytes_eq name (codes "twist") then twist_with source word options
+    else if bytes_eq name (codes "check") then check_with source word options
     else None
 command_named name [] = None
 
@@ -78,7 +92,7 @@ abbrev pub command : List (String Global) → Option Command
 command [] = None
 command (name ∷ words) = command_named (string_bytes name) (map string_bytes words)
 
--- ---- the files that are read
+-- ---- the surface
 
 -- the surface that the command is about
 abbrev pub source_in : Command → Source
@@ -86,12 +100,9 @@ source_in (show source) = source
 source_in (image source word coordinates) = source
 source_in (twist source coordinates hand) = source
 source_in (classify source word budget) = source
+source_in (check source word certificate) = source
 
+-- the name is that of the surface's file
 abbrev pub IsReadFrom : Source → List ℕ → Type 0
 IsReadFrom (file name) read = read ≡ name
 IsReadFrom (builtin name) read = ⊥
-
--- the name is one that the words make the program read: the file of their command, if it has one
-abbrev pub IsReadBy : Option Command → List ℕ → Type 0
-IsReadBy None name = ⊥
-IsReadBy (Some asked) name = IsReadFrom (source_in asked) name

@@ -1,7 +1,9 @@
--- What is printed of the errors of words and of surface files: the name of the cause, and behind
+-- What is printed of the errors of words, surface files and certificates: the name of the cause, and behind
 -- one space its number or its key.
 use Rattle.std.specs.Prelude.{◌++◌, ℕ, ℤ, List, codes}
 use Rattle.std.specs.Fmt.{decimal, signed_decimal}
+use Rattle.cert_text.specs.declared.cert_error.CertKey.{CertKey}
+use Rattle.cert_text.specs.declared.cert_error.CertKey.TheVariants as certificate
 use Rattle.surface_lib.specs.declared.error.WordError.{WordError}
 use Rattle.surface_lib.specs.declared.error.WordError.TheVariants as word
 use Rattle.surface_lib.specs.declared.surface_error.Key.{Key}
@@ -36,6 +38,32 @@ key_name key.Word = codes "word"
 
 abbrev pub with_key : List ℕ → Key → List ℕ
 with_key name k = name ++ codes " " ++ key_name k
+
+-- a key as it stands in a certificate; the text itself has none
+abbrev pub certificate_key_name : CertKey → List ℕ
+certificate_key_name certificate.File = codes "file"
+certificate_key_name certificate.Kind = codes "kind"
+certificate_key_name certificate.Anchors = codes "anchors"
+certificate_key_name certificate.Capped = codes "capped"
+certificate_key_name certificate.Coords = codes "coords"
+certificate_key_name certificate.Curves = codes "curves"
+certificate_key_name certificate.Exponent = codes "exponent"
+certificate_key_name certificate.Flips = codes "flips"
+certificate_key_name certificate.High = codes "high"
+certificate_key_name certificate.Images = codes "images"
+certificate_key_name certificate.LeftOut = codes "left_out"
+certificate_key_name certificate.Low = codes "low"
+certificate_key_name certificate.Matrix = codes "matrix"
+certificate_key_name certificate.Order = codes "order"
+certificate_key_name certificate.Paths = codes "paths"
+certificate_key_name certificate.Power = codes "power"
+certificate_key_name certificate.Powers = codes "powers"
+certificate_key_name certificate.Reasons = codes "reasons"
+certificate_key_name certificate.Tracks = codes "tracks"
+certificate_key_name certificate.U = codes "u"
+
+abbrev pub with_certificate_key : List ℕ → CertKey → List ℕ
+with_certificate_key name k = name ++ codes " " ++ certificate_key_name k
 
 -- ---- words
 

@@ -7,7 +7,8 @@
 -- The steps that `twist` prints are those of the Dehn twist about the given curve, by its descent:
 -- the path that they name, backwards for the hand minus, has the map of the twist of that hand, and
 -- fixes the curve.
--- Each verdict of `classify` other than unknown has a certificate that holds, and means what it says:
+-- Each verdict of `classify` other than unknown carries a certificate that the checker accepts
+-- exactly where it holds. It holds, so that the checker accepts it, and means what it says:
 -- `periodic K` that the K-th power of the word's map is the first that is inner; `reducible` and a
 -- vector that this is a multicurve's, with at least one curve and none that runs round a vertex, and
 -- that the word's map carries its curves to themselves, up to order, rotation and direction, so that
@@ -17,7 +18,15 @@
 -- every closed legal walk lies between the printed bounds, the lower first, which is above 1
 -- (`IsMeant` of `cert_text`). The powers are tried first, then the candidates for such a vector, then
 -- those for a track. With `unknown` comes a true log of what was tried.
+-- What `check` prints is the checker's verdict on the certificate that CERT holds, for the word:
+-- `accepted` exactly where it claims a verdict and holds, and then it means what it says, wherever it
+-- comes from, and no positive power of a word that it calls pseudo-Anosov is inner; `no claim`
+-- exactly where it claims none; and else, with a status of its own, the first rule that fails.
 use Rattle.std.specs.Prelude.{◌≡◌, ℕ, ℤ, List, Option, Some, None, Ok}
+use Rattle.cert_checker.specs.Verdicts.{IsClaim, IsExact, IsNeverInner}
+use Rattle.cert_checker.specs.Verdicts.{IsVerdict as IsCheckerVerdict}
+use Rattle.cert_checker.specs.declared.verdict.Verdict.{Verdict}
+use Rattle.cert_checker.specs.declared.verdict.Verdict.TheVariants.{Accepted}
 use Rattle.flip_io.specs.Files.{Files}
 use Rattle.ideal_tri.specs.Drawings.{draw}
 use Rattle.ideal_tri.specs.Labels.{edge_of}
@@ -35,10 +44,11 @@ use Rattle.cert_text.specs.Certificates.{Certificate}
 use Rattle.cert_text.specs.Holds.{HoldsFor}
 use Rattle.verdict_plan.specs.Verdicts.{IsVerdict}
 use Rattle.verdict_plan.specs.declared.budget.Budget.{Budget}
-use Rattle.flipper_cli.specs.Commands.{Command, show, image, twist, classify, source_in}
+use Rattle.flipper_cli.specs.Answers.{Report, printed, rule_failed, checked}
+use Rattle.flipper_cli.specs.Commands.{Command, show, image, twist, classify, check, source_in}
 use Rattle.flipper_cli.specs.Coordinates.{numbers_in}
 use Rattle.flipper_cli.specs.Line.{line_of}
-use Rattle.flipper_cli.specs.Report.{IsFound}
+use Rattle.flipper_cli.specs.Report.{IsCertificateIn, IsFound}
 use Rattle.flipper_cli.specs.Show.{show_lines}
 use Rattle.flipper_cli.specs.Twists.{twist_lines}
 use Rattle.flipper_cli.specs.Verdicts.{verdict_lines}
@@ -75,6 +85,11 @@ pub record IsTwistLines (d : Described) (coordinates : List ℕ) (hand : Hand) (
   pub of_coordinates : numbers_in coordinates ≡ Ok curve
   pub are_steps : AreTwistSteps d.triangles curve hand printed
 
+-- where the certificate claims a verdict, the checker accepts it: no other answer is exact
+abbrev pub IsAccepted : List (List ℤ) → List Move → Certificate → Type 0
+IsAccepted triangles moves c =
+    IsClaim c → (v : Verdict) → IsExact triangles moves c v → v ≡ Accepted
+
 -- the lines printed for a word are those of its verdict, and the certificate holds
 pub record IsVerdictLines (d : Described) (word : List ℕ) (budget : Budget) (printed : List ℕ)
     : Type 0 where
@@ -84,18 +99,50 @@ pub record IsVerdictLines (d : Described) (word : List ℕ) (budget : Budget) (p
   pub is_verdict : IsVerdict d.triangles moves budget certificate
   pub holds : HoldsFor d.triangles moves certificate
   pub means : IsMeant d.triangles moves certificate
+  pub is_accepted : IsAccepted d.triangles moves certificate
   pub is_printed : printed ≡ verdict_lines certificate
 
--- what a command printed about a surface
-abbrev pub IsPrinted : Command → Described → List ℕ → Type 0
-IsPrinted (show source) d printed = printed ≡ show_lines d
-IsPrinted (image source word coordinates) d printed = IsImageLine d word coordinates printed
-IsPrinted (twist source coordinates hand) d printed = IsTwistLines d coordinates hand printed
-IsPrinted (classify source word budget) d printed = IsVerdictLines d word budget printed
+-- the answer is the checker's verdict on the certificate that the file holds, for a word: accepted
+-- exactly where it claims a verdict and holds, and then it means what it says; no claim where it
+-- claims none; and otherwise the first rule that fails
+pub record IsCheckedFor (d : Described) (word : List ℕ) (file : Option (List ℕ)) (answer : Report)
+    : Type 0 where
+  pub moves : List Move
+  pub certificate : Certificate
+  pub verdict : Verdict
+  pub of_word : reading moves_kind d.generators word ≡ Ok moves
+  pub of_file : IsCertificateIn file (Ok certificate)
+  pub is_verdict : IsCheckerVerdict d.triangles moves certificate verdict
+  pub exact : IsExact d.triangles moves certificate verdict
+  pub means : verdict ≡ Accepted → IsMeant d.triangles moves certificate
+  pub never_inner : verdict ≡ Accepted → IsNeverInner d.triangles moves certificate
+  pub is_answered : answer ≡ checked verdict
+
+-- what a command printed about a surface, with status 0, over these files of the certificate
+abbrev pub IsPrinted : Command → Described → Files → List ℕ → Type 0
+IsPrinted (show source) d files line = line ≡ show_lines d
+IsPrinted (image source word coordinates) d files line = IsImageLine d word coordinates line
+IsPrinted (twist source coordinates hand) d files line = IsTwistLines d coordinates hand line
+IsPrinted (classify source word budget) d files line = IsVerdictLines d word budget line
+IsPrinted (check source word certificate) d files line =
+    IsCheckedFor d word (files certificate) (printed line)
+
+-- what was printed with the status of a rule that fails: `check` alone has it
+abbrev pub IsFailedLine : Command → Described → Files → List ℕ → Type 0
+IsFailedLine (check source word certificate) d files line =
+    IsCheckedFor d word (files certificate) (rule_failed line)
+IsFailedLine _ d files line = ⊥
 
 -- what the program printed, with status 0, for a command over these files: it is true of the
--- surface that FILE stands for
-abbrev pub IsHeadline : Option Command → Files → List ℕ → Type 0
-IsHeadline None files printed = ⊥
-IsHeadline (Some asked) files printed =
-    (d : Described) × IsFound files (source_in asked) (Ok d) × IsPrinted asked d printed
+-- surface that FILE stands for. Over a shelf that tells its files, those read later for a
+-- certificate are the same; else they may have changed
+abbrev pub IsHeadline : Option Command → (files later : Files) → List ℕ → Type 0
+IsHeadline None files later line = ⊥
+IsHeadline (Some asked) files later line =
+    (d : Described) × IsFound files (source_in asked) (Ok d) × IsPrinted asked d later line
+
+-- and with the status of a rule that fails
+abbrev pub IsRuleLine : Option Command → (files later : Files) → List ℕ → Type 0
+IsRuleLine None files later line = ⊥
+IsRuleLine (Some asked) files later line =
+    (d : Described) × IsFound files (source_in asked) (Ok d) × IsFailedLine asked d later line

@@ -10,6 +10,7 @@ pub mod ErrorTexts
 pub mod Limits
 pub mod Line
 pub mod Options
+pub mod ReadNames
 pub mod RefusalCauses
 pub mod RefusalLines
 pub mod Show

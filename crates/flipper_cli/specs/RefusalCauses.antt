@@ -1,4 +1,6 @@
 -- Which refusal answers an error of a layer below: want of memory is one refusal wherever it comes.
+use Rattle.cert_text.specs.declared.cert_error.CertError.{CertError}
+use Rattle.cert_text.specs.declared.cert_error.CertError.TheVariants as certificate
 use Rattle.edge_coords.specs.Coordinates.{total_of}
 use Rattle.flip_io.specs.declared.whole.ReadError.{ReadError}
 use Rattle.flip_io.specs.declared.whole.ReadError.TheVariants as read
@@ -12,14 +14,17 @@ use Rattle.surface_lib.specs.declared.twister.TwistError.{TwistError}
 use Rattle.surface_lib.specs.declared.twister.TwistError.TheVariants as error
 use Rattle.flipper_cli.specs.declared.coordinates.NumbersError.{NumbersError}
 use Rattle.flipper_cli.specs.declared.coordinates.NumbersError.TheVariants as numbers
+use Rattle.flipper_cli.specs.declared.refusal.CertificateFault.TheVariants.{FileTooLong, NotJson}
+use Rattle.flipper_cli.specs.declared.refusal.CertificateFault.TheVariants.{MissingKey, BadShape}
 use Rattle.flipper_cli.specs.declared.refusal.CoordinatesError.TheVariants.{BadNumber}
 use Rattle.flipper_cli.specs.declared.refusal.Refusal.{Refusal}
 use Rattle.flipper_cli.specs.declared.refusal.Refusal.TheVariants.{Absent, Failed}
 use Rattle.flipper_cli.specs.declared.refusal.Refusal.TheVariants.{Surface, Word, Coordinates}
-use Rattle.flipper_cli.specs.declared.refusal.Refusal.TheVariants.{Twist, UnknownBuiltin, Memory}
+use Rattle.flipper_cli.specs.declared.refusal.Refusal.TheVariants.{Twist, Certificate, UnknownBuiltin, Memory}
 use Rattle.flipper_cli.specs.declared.refusal.TwistFault.TheVariants.{TotalOver, NotOneCurve}
 use Rattle.flipper_cli.specs.declared.refusal.TwistFault.TheVariants.{Peripheral, Stuck}
 
+-- of the surface's file
 abbrev pub for_read : ReadError → Refusal
 for_read read.Absent = Absent
 for_read read.Failed = Failed
@@ -48,3 +53,16 @@ for_twist error.NotOneCurve = Twist NotOneCurve
 for_twist error.Peripheral = Twist Peripheral
 for_twist (error.Stuck at) = Twist (Stuck (total_of at.numbers))
 for_twist error.Memory = Memory
+
+-- of the certificate's file
+abbrev pub for_unread_certificate : ReadError → Refusal
+for_unread_certificate read.Absent = Absent
+for_unread_certificate read.Failed = Failed
+for_unread_certificate read.TooLong = Certificate FileTooLong
+for_unread_certificate read.Memory = Memory
+
+abbrev pub for_certificate : CertError → Refusal
+for_certificate certificate.NotJson = Certificate NotJson
+for_certificate (certificate.MissingKey k) = Certificate (MissingKey k)
+for_certificate (certificate.BadShape k) = Certificate (BadShape k)
+for_certificate certificate.Memory = Memory

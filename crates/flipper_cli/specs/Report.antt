@@ -1,7 +1,7 @@
 -- The report of a call: which status, which bytes for the output and which for the error stream,
 -- for its words over the files of the shelf.
-use Rattle.std.specs.Prelude.{◌≡◌, ◌⊎◌, ℕ, ℤ, List, Option, Some, None, Result, Ok, Err}
-use Rattle.std.specs.Prelude.{MatchResult}
+use Rattle.std.specs.Prelude.{◌≡◌, ◌⊎◌, ◌<◌, ◌≤◌, ℕ, ℤ, List, length, Option, Some, None}
+use Rattle.std.specs.Prelude.{Result, Ok, Err, MatchResult}
 use Rattle.ideal_tri.specs.Labels.{edge_of}
 use Rattle.ideal_tri.specs.Vectors.{IsMulticurve}
 use Rattle.flip_io.specs.Files.{Files}
@@ -23,24 +23,31 @@ use Rattle.surface_lib.specs.declared.surface_error.SurfaceError.{SurfaceError}
 use Rattle.surface_lib.specs.declared.twister.Hand.{Hand}
 use Rattle.surface_lib.specs.declared.twister.TwistError.TheVariants as error
 use Rattle.twist_compile.specs.TwistPaths.{IsCompiled, IsCompiledFrom, IsTwistable, exchange_images}
+use Rattle.cert_checker.specs.Verdicts.{IsVerdict as IsCheckerVerdict}
+use Rattle.cert_checker.specs.declared.verdict.Verdict.{Verdict}
 use Rattle.cert_text.specs.Certificates.{Certificate}
+use Rattle.cert_text.specs.Reading.{IsReadingOf as IsCertificateReading}
+use Rattle.cert_text.specs.declared.cert_error.CertError.{CertError}
 use Rattle.verdict_plan.specs.Verdicts.{IsVerdict}
 use Rattle.verdict_plan.specs.declared.budget.Budget.{Budget}
-use Rattle.flipper_cli.specs.Answers.{Report, printed, refused}
-use Rattle.flipper_cli.specs.Commands.{Command, Source, show, image, twist, classify, file, builtin}
-use Rattle.flipper_cli.specs.Commands.{source_in}
+use Rattle.flipper_cli.specs.Answers.{Report, printed, checked, refused}
+use Rattle.flipper_cli.specs.Commands.{Command, Source, show, image, twist, classify, check, file}
+use Rattle.flipper_cli.specs.Commands.{builtin, source_in}
 use Rattle.flipper_cli.specs.Coordinates.{numbers_in}
+use Rattle.flipper_cli.specs.Limits.{certificate_limit}
 use Rattle.flipper_cli.specs.Line.{line_of}
-use Rattle.flipper_cli.specs.RefusalCauses.{for_numbers}
+use Rattle.flipper_cli.specs.RefusalCauses.{for_certificate, for_numbers}
 use Rattle.flipper_cli.specs.Show.{show_lines}
 use Rattle.flipper_cli.specs.Twists.{twist_lines}
 use Rattle.flipper_cli.specs.Verdicts.{verdict_lines}
 use Rattle.flipper_cli.specs.declared.coordinates.NumbersError.{NumbersError}
+use Rattle.flipper_cli.specs.declared.refusal.CertificateFault.TheVariants.{FileTooLong}
 use Rattle.flipper_cli.specs.declared.refusal.CoordinatesError.TheVariants.{Coords}
 use Rattle.flipper_cli.specs.declared.refusal.Refusal.{Refusal}
 use Rattle.flipper_cli.specs.declared.refusal.Refusal.TheVariants.{Usage, Absent, UnknownBuiltin}
 use Rattle.flipper_cli.specs.declared.refusal.Refusal.TheVariants.{Surface, Word, Coordinates}
 use Rattle.flipper_cli.specs.declared.refusal.Refusal.TheVariants.{Twist, Overflow}
+use Rattle.flipper_cli.specs.declared.refusal.Refusal.TheVariants.{Certificate as NoCertificate}
 use Rattle.flipper_cli.specs.declared.refusal.TwistFault.{TwistFault}
 use Rattle.flipper_cli.specs.declared.refusal.TwistFault.TheVariants.{TotalOver, NotOneCurve}
 use Rattle.flipper_cli.specs.declared.refusal.TwistFault.TheVariants.{Peripheral, Stuck}
@@ -129,21 +136,54 @@ abbrev pub IsClassifyReport : Described → Result (List Move) WordError → Bud
 IsClassifyReport d word budget r =
     MatchResult word (λ moves. IsVerdictReport d moves budget r) (λ e. r ≡ refused (Word e))
 
+-- ---- `check`, from the last step back
+
+-- a text's reading, as the program answers it
+abbrev pub as_certificate : Result Certificate CertError → Result Certificate Refusal
+as_certificate (Ok c) = Ok c
+as_certificate (Err e) = Err (for_certificate e)
+
+-- the certificate that a file holds, or why there is none
+abbrev pub IsCertificateIn : Option (List ℕ) → Result Certificate Refusal → Type 0
+IsCertificateIn None found = found ≡ Err Absent
+IsCertificateIn (Some bytes) found =
+    (certificate_limit < length bytes × (found ≡ Err (NoCertificate FileTooLong)))
+    ⊎ (length bytes ≤ certificate_limit
+    × ((read : Result Certificate CertError) × IsCertificateReading bytes read
+    × (found ≡ as_certificate read)))
+
+-- the checker's verdict on the certificate, for the moves of the word
+abbrev pub IsCheckedReport : Described → List Move → Certificate → Report → Type 0
+IsCheckedReport d moves c r =
+    (v : Verdict) × IsCheckerVerdict d.triangles moves c v × (r ≡ checked v)
+
+abbrev pub IsCertificateReport : Described → List Move → Option (List ℕ) → Report → Type 0
+IsCertificateReport d moves certificate r =
+    (found : Result Certificate Refusal) × IsCertificateIn certificate found
+    × MatchResult found (λ c. IsCheckedReport d moves c r) (λ e. r ≡ refused e)
+
+abbrev pub IsCheckReport : Described → Result (List Move) WordError → Option (List ℕ) → Report
+    → Type 0
+IsCheckReport d word certificate r =
+    MatchResult word (λ moves. IsCertificateReport d moves certificate r) (λ e. r ≡ refused (Word e))
+
 -- ---- the report of a call
 
--- the report of a command about this surface
-abbrev pub IsSurfaceReport : Command → Described → Report → Type 0
-IsSurfaceReport (show source) d r = r ≡ printed (show_lines d)
-IsSurfaceReport (image source word coordinates) d r =
+-- the report of a command about this surface, over these files
+abbrev pub IsSurfaceReport : Command → Files → Described → Report → Type 0
+IsSurfaceReport (show source) files d r = r ≡ printed (show_lines d)
+IsSurfaceReport (image source word coordinates) files d r =
     IsWordReport d (reading moves_kind d.generators word) coordinates r
-IsSurfaceReport (twist source coordinates hand) d r =
+IsSurfaceReport (twist source coordinates hand) files d r =
     IsNumbersReport d (IsTwistReport d hand) (numbers_in coordinates) r
-IsSurfaceReport (classify source word budget) d r =
+IsSurfaceReport (classify source word budget) files d r =
     IsClassifyReport d (reading moves_kind d.generators word) budget r
+IsSurfaceReport (check source word certificate) files d r =
+    IsCheckReport d (reading moves_kind d.generators word) (files certificate) r
 
 -- the report of these words, read as a command, over these files
 abbrev pub IsReport : Option Command → Files → Report → Type 0
 IsReport None files r = r ≡ refused Usage
 IsReport (Some asked) files r =
     (found : Result Described Refusal) × IsFound files (source_in asked) found
-    × MatchResult found (λ d. IsSurfaceReport asked d r) (λ e. r ≡ refused e)
+    × MatchResult found (λ d. IsSurfaceReport asked files d r) (λ e. r ≡ refused e)

@@ -8,7 +8,7 @@ ghost use Rattle.surface_lib.specs.Surfaces.{IsSurface};
 ghost use Rattle.flipper_cli.specs.Headline.{IsVerdictLines};
 ghost use Rattle.flipper_cli.specs.Options.{budget_of};
 ghost use Rattle.flipper_cli.specs.Report.{IsClassifyReport};
-ghost use Rattle.flipper_cli.specs.Run.{shown};
+ghost use Rattle.flipper_cli.specs.inside.Shown.{shown};
 ghost use Rattle.flipper_cli.specs.Verdicts.{verdict_lines, verdict_text};
 ghost use Rattle.flipper_cli.specs.inside.AboutSurfaces.{IsAboutSurface};
 ghost use Rattle.flipper_cli.specs.inside.SeenCommand.{budget_given};

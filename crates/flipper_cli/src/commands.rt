@@ -3,7 +3,8 @@ ghost use Rattle.std.specs.Prelude.{◌≡◌, MatchOption, Some, None};
 ghost use Rattle.std.specs.Prelude.{map, string_bytes};
 ghost use Rattle.surface_lib.specs.TwistForms.{hand_spelt};
 ghost use Rattle.flipper_cli.specs.Commands.{command, show_command, image_command, is_argument};
-ghost use Rattle.flipper_cli.specs.Commands.{twist_command, classify_command, source_of};
+ghost use Rattle.flipper_cli.specs.Commands.{twist_command, classify_command, check_command};
+ghost use Rattle.flipper_cli.specs.Commands.{source_of};
 ghost use Rattle.flipper_cli.specs.inside.SeenCommand.{seen, seen_source, HasBudget};
 
 use crate::options::fits_options;
@@ -43,12 +44,18 @@ pub(crate) enum Command<'a> {
         word: &'a str,
         options: &'a [String],
     },
+    /// Whether the certificate of the file of this name holds for a word.
+    Check {
+        source: Source<'a>,
+        word: &'a str,
+        certificate: &'a str,
+    },
 }
 
 /// The command that the words fit: `show FILE`, `image FILE WORD COORDS`, `twist FILE COORDS HAND`,
-/// or `classify FILE WORD` and options. None of FILE, WORD and COORDS begins with `-`. A FILE that
-/// begins with `@` names a built-in surface behind it; any other is a file's name. HAND is `plus` or
-/// `minus`.
+/// `classify FILE WORD` and options, or `check FILE WORD CERT`. None of FILE, WORD, COORDS and CERT
+/// begins with `-`. A FILE that begins with `@` names a built-in surface behind it; any other is a
+/// file's name, and so is each CERT. HAND is `plus` or `minus`.
 pub(crate) fn command_of(words: &[String]) -> Option<Command<'_>>
     ensures { MatchOption result (command words.now ≡ None)
         (λ c. (command words.now ≡ Some (seen c)) × HasBudget c) }
@@ -63,6 +70,9 @@ pub(crate) fn command_of(words: &[String]) -> Option<Command<'_>>
         }
         [name, file, coordinates, hand] if name.as_str() == "twist" => {
             twist_command(file.as_str(), coordinates.as_str(), hand.as_str())
+        }
+        [name, file, word, certificate] if name.as_str() == "check" => {
+            check_command(file.as_str(), word.as_str(), certificate.as_str())
         }
         _ => None,
     }
@@ -144,6 +154,22 @@ fn classify_command<'a>(file: &'a str, word: &'a str, options: &'a [String]) -> 
     }
 }
 
+/// The command `check` with these words behind it, if they may stand there.
+fn check_command<'a>(file: &'a str, word: &'a str, certificate: &'a str) -> Option<Command<'a>>
+    ensures { MatchOption result (check_command file.now word.now certificate.now ≡ None)
+        (λ c. (check_command file.now word.now certificate.now ≡ Some (seen c)) × HasBudget c) }
+{
+    if is_argument(file) && is_argument(word) && is_argument(certificate) {
+        Some(Command::Check {
+            source: source_of(file),
+            word,
+            certificate,
+        })
+    } else {
+        None
+    }
+}
+
 /// What a FILE stands for.
 fn source_of(file: &str) -> Source<'_>
     ensures { seen_source result ≡ source_of file.now }
@@ -154,7 +180,7 @@ fn source_of(file: &str) -> Source<'_>
     }
 }
 
-/// The text may stand in the place of FILE, WORD or COORDS: it doesn't begin with `-`.
+/// The text may stand in the place of FILE, WORD, COORDS or CERT: it doesn't begin with `-`.
 fn is_argument(text: &str) -> bool
     ensures { result ≡ is_argument text.now }
 {
@@ -264,6 +290,16 @@ mod tests {
             ("classify torus.json r --", false),
             ("classify torus.json r -- --powers 1", false),
             ("classify torus.json r s", false),
+            ("check torus.json r c.txt", true),
+            ("check @torus  @c", true),
+            ("check @torus r ", true),
+            ("check torus.json r", false),
+            ("check torus.json r c.txt d.txt", false),
+            ("check torus.json r -c.txt", false),
+            ("check torus.json -r c.txt", false),
+            ("check -torus r c.txt", false),
+            ("check torus.json r --", false),
+            ("Check torus.json r c.txt", false),
             ("", false),
         ] {
             let words = words_of(rt.alloc(), line)?;

@@ -10,7 +10,7 @@ ghost use Rattle.surface_lib.specs.Surfaces.{IsSurface, IsLoop};
 ghost use Rattle.flipper_cli.specs.Headline.{IsImageLine};
 ghost use Rattle.flipper_cli.specs.Line.{line_of};
 ghost use Rattle.flipper_cli.specs.Report.{IsImageReport, IsVectorReport, IsWordReport};
-ghost use Rattle.flipper_cli.specs.Run.{shown};
+ghost use Rattle.flipper_cli.specs.inside.Shown.{shown};
 ghost use Rattle.flipper_cli.specs.inside.AboutSurfaces.{IsAboutSurface};
 
 use crate::coordinates::numbers_in;

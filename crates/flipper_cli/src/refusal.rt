@@ -2,10 +2,14 @@
 ghost use Rattle.std.specs.Prelude.{◌≡◌, ◌++◌, codes, IfOk, OnOk, string_bytes};
 ghost use Rattle.flipper_cli.specs.ErrorTexts.{with_number, with_label, with_key, key_name};
 ghost use Rattle.flipper_cli.specs.ErrorTexts.{word_text, fault_text, surface_text};
+ghost use Rattle.flipper_cli.specs.ErrorTexts.{certificate_key_name, with_certificate_key};
 ghost use Rattle.flipper_cli.specs.RefusalLines.{coords_text, coordinates_text, overflow_text};
-ghost use Rattle.flipper_cli.specs.RefusalLines.{twist_text, refusal_text, line_for};
+ghost use Rattle.flipper_cli.specs.RefusalLines.{twist_text, certificate_text};
+ghost use Rattle.flipper_cli.specs.RefusalLines.{refusal_text, line_for};
+ghost use Rattle.flipper_cli.specs.RefusalCauses.{for_unread_certificate};
 
 use crate::coordinates::NumbersError;
+use cert_text::{CertError, CertKey};
 use edge_coords::{CoordsError, OverflowAt};
 use flip_io::ReadError;
 use ideal_tri::Memory;
@@ -36,14 +40,27 @@ pub enum TwistFault {
     Stuck(u128),
 }
 
+/// Why a file holds no certificate: the first test that fails, in the order of the variants.
+#[derive(Clone, Copy, Debug, PartialEq, Eq)]
+pub enum CertificateFault {
+    /// The file has more than 67,108,864 bytes.
+    FileTooLong,
+    /// What is read of it is no JSON text.
+    NotJson,
+    /// The object has no such key.
+    MissingKey(CertKey),
+    /// What is read is no object, or the value at its key has another shape.
+    BadShape(CertKey),
+}
+
 /// Why nothing is printed on the output.
 #[derive(Clone, Copy, Debug, PartialEq, Eq)]
 pub enum Refusal {
     /// The words of the command line fit no command.
     Usage,
-    /// There is no surface file of this name.
+    /// There is no file of the name of the surface's or of the certificate's.
     Absent,
-    /// A read of the surface file failed.
+    /// A read of the surface's or of the certificate's file failed.
     Failed,
     /// No surface of this name comes with the program.
     UnknownBuiltin,
@@ -55,6 +72,8 @@ pub enum Refusal {
     Coordinates(CoordinatesError),
     /// There is no Dehn twist about the multicurve.
     Twist(TwistFault),
+    /// The file holds no certificate.
+    Certificate(CertificateFault),
     /// A flip of the word gives a coordinate of 2^126 or more.
     Overflow(OverflowAt),
     /// No memory was found.
@@ -159,6 +178,34 @@ impl From<TwistError> for Refusal {
     }
 }
 
+impl From<CertError> for Refusal {
+    ghost use Rattle.std.specs.Prelude.{◌≡◌};
+    ghost use Rattle.flipper_cli.specs.RefusalCauses.{for_certificate};
+
+    ghost from_gives = { λ error refusal. refusal ≡ for_certificate error };
+
+    fn from(error: CertError) -> Refusal {
+        Refusal::Certificate(match error {
+            CertError::NotJson => CertificateFault::NotJson,
+            CertError::MissingKey(key) => CertificateFault::MissingKey(key),
+            CertError::BadShape(key) => CertificateFault::BadShape(key),
+            CertError::Memory => return Refusal::Memory,
+        })
+    }
+}
+
+/// The refusal for a certificate's file that couldn't be read whole.
+pub(crate) fn unread_certificate(error: ReadError) -> Refusal
+    ensures { result ≡ for_unread_certificate error }
+{
+    match error {
+        ReadError::Absent => Refusal::Absent,
+        ReadError::Failed => Refusal::Failed,
+        ReadError::TooLong => Refusal::Certificate(CertificateFault::FileTooLong),
+        ReadError::Memory => Refusal::Memory,
+    }
+}
+
 impl From<OverflowAt> for Refusal {
     ghost use Rattle.std.specs.Prelude.{◌≡◌};
     ghost use Rattle.flipper_cli.specs.declared.refusal.Refusal.TheVariants.{Overflow};
@@ -251,6 +298,42 @@ fn push_key(line: &mut String, name: &str, key: Key) -> Result<(), AllocError>
         (string_bytes line.new ≡ string_bytes line.old ++ with_key name.now key) }
 {
     let key = key_name(key);
+    write!(line, "{name} {key}")
+}
+
+/// The key as it stands in a certificate.
+fn certificate_key_name(key: CertKey) -> &'static str
+    ensures { result.now ≡ certificate_key_name key }
+{
+    match key {
+        CertKey::File => "file",
+        CertKey::Kind => "kind",
+        CertKey::Anchors => "anchors",
+        CertKey::Capped => "capped",
+        CertKey::Coords => "coords",
+        CertKey::Curves => "curves",
+        CertKey::Exponent => "exponent",
+        CertKey::Flips => "flips",
+        CertKey::High => "high",
+        CertKey::Images => "images",
+        CertKey::LeftOut => "left_out",
+        CertKey::Low => "low",
+        CertKey::Matrix => "matrix",
+        CertKey::Order => "order",
+        CertKey::Paths => "paths",
+        CertKey::Power => "power",
+        CertKey::Powers => "powers",
+        CertKey::Reasons => "reasons",
+        CertKey::Tracks => "tracks",
+        CertKey::U => "u",
+    }
+}
+
+fn push_certificate_key(line: &mut String, name: &str, key: CertKey) -> Result<(), AllocError>
+    ensures { OnOk result
+        (string_bytes line.new ≡ string_bytes line.old ++ with_certificate_key name.now key) }
+{
+    let key = certificate_key_name(key);
     write!(line, "{name} {key}")
 }
 
@@ -368,6 +451,18 @@ fn push_twist(line: &mut String, fault: TwistFault) -> Result<(), AllocError>
     }
 }
 
+fn push_certificate(line: &mut String, fault: CertificateFault) -> Result<(), AllocError>
+    ensures { OnOk result (string_bytes line.new
+        ≡ string_bytes line.old ++ certificate_text fault) }
+{
+    match fault {
+        CertificateFault::FileTooLong => push_text(line, "FileTooLong"),
+        CertificateFault::NotJson => push_text(line, "NotJson"),
+        CertificateFault::MissingKey(key) => push_certificate_key(line, "MissingKey", key),
+        CertificateFault::BadShape(key) => push_certificate_key(line, "BadShape", key),
+    }
+}
+
 fn push_refusal(line: &mut String, refusal: Refusal) -> Result<(), AllocError>
     ensures { OnOk result (string_bytes line.new ≡ string_bytes line.old ++ refusal_text refusal) }
 {
@@ -391,6 +486,10 @@ fn push_refusal(line: &mut String, refusal: Refusal) -> Result<(), AllocError>
         Refusal::Twist(fault) => {
             push_text(line, "twist ")?;
             push_twist(line, fault)
+        }
+        Refusal::Certificate(fault) => {
+            push_text(line, "certificate ")?;
+            push_certificate(line, fault)
         }
         Refusal::Overflow(overflow) => {
             push_text(line, "overflow ")?;
@@ -457,6 +556,18 @@ mod tests {
             (
                 Refusal::Twist(TwistFault::Stuck(10)),
                 "error: twist Stuck 10\n",
+            ),
+            (
+                Refusal::Certificate(CertificateFault::FileTooLong),
+                "error: certificate FileTooLong\n",
+            ),
+            (
+                Refusal::Certificate(CertificateFault::MissingKey(CertKey::LeftOut)),
+                "error: certificate MissingKey left_out\n",
+            ),
+            (
+                Refusal::Certificate(CertificateFault::BadShape(CertKey::U)),
+                "error: certificate BadShape u\n",
             ),
             (
                 Refusal::Overflow(overflow),

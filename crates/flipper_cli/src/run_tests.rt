@@ -43,7 +43,7 @@ const NEVER: u64 = 0;
 /// Words, the status, what is printed on the output, and the line on the error stream.
 pub(crate) type Row<'a> = (&'a [&'a str], Status, &'a str, &'a str);
 
-fn words_of(alloc: Global, texts: &[&str]) -> Result<Vec<String>, AllocError> {
+pub(crate) fn words_of(alloc: Global, texts: &[&str]) -> Result<Vec<String>, AllocError> {
     let mut words = Vec::new(alloc);
     for text in texts {
         words.push(String::from_str(alloc, text)?)?;

@@ -1,16 +1,17 @@
 //! Answers whose lines are made, before anything is written.
-ghost use Rattle.std.specs.Prelude.{◌≡◌, ◌⊎◌, ◌↔◌, ℕ, List, Some, None, Err, Result, Vec, IfOk};
+ghost use Rattle.std.specs.Prelude.{◌≡◌, ◌⊎◌, ◌↔◌, ℕ, List, Some, None, Err, Result, IfOk};
 ghost use Rattle.std.specs.Prelude.{IfErr, IsErrOf, IsTrue, MatchOption};
-ghost use Rattle.std.specs.declared.alloc.Global.{Global as GlobalAlloc};
 ghost use Rattle.flip_io.specs.Counts.{SameCounts};
 ghost use Rattle.flip_io.specs.Files.{Files};
 ghost use Rattle.flip_io.specs.Reads.{AfterReads};
-ghost use Rattle.flipper_cli.specs.Commands.{IsReadBy, command};
-ghost use Rattle.flipper_cli.specs.Headline.{IsHeadline};
+ghost use Rattle.flipper_cli.specs.Commands.{command};
+ghost use Rattle.flipper_cli.specs.ReadNames.{IsReadBy};
 ghost use Rattle.flipper_cli.specs.RefusalLines.{line_for};
-ghost use Rattle.flipper_cli.specs.Run.{IsAnswer, IsLacking, IsOver, ReadRaised, shown};
+ghost use Rattle.flipper_cli.specs.Run.{IsAnswer, IsLacking, IsOver, LacksSurface, ReadRaised};
 ghost use Rattle.flipper_cli.specs.inside.Places.{HasPlace, HasLine, IsSettled};
+ghost use Rattle.flipper_cli.specs.inside.Shown.{IsOutputOf, made_as};
 
+use crate::answers::Output;
 use crate::refusal::Refusal;
 use crate::work::work;
 use flip_io::Shelf;
@@ -19,7 +20,7 @@ use std::alloc::Global;
 /// What the work found, and the line of its refusal where that tells of a place or a number.
 #[derive(Drop)]
 pub(crate) struct Settled {
-    pub(crate) made: Result<Vec<u8>, Refusal>,
+    pub(crate) made: Result<Output, Refusal>,
     pub(crate) line: Vec<u8>,
 }
 
@@ -38,6 +39,7 @@ pub(crate) fn fixed_line(refusal: Refusal) -> Option<&'static str>
         | Refusal::Word(_)
         | Refusal::Coordinates(_)
         | Refusal::Twist(_)
+        | Refusal::Certificate(_)
         | Refusal::Overflow(_) => None,
     }
 }
@@ -61,13 +63,13 @@ fn with_line(alloc: Global, refusal: Refusal) -> Settled
 }
 
 /// Makes the line of what was made, if it is a refusal that tells of a place.
-fn settle(alloc: Global, made: Result<Vec<u8>, Refusal>) -> Settled
+fn settle(alloc: Global, made: Result<Output, Refusal>) -> Settled
     ensures settled { IsSettled made result.made }
     ensures line { HasLine result }
 {
     match made {
-        Ok(bytes) => Settled {
-            made: Ok(bytes),
+        Ok(output) => Settled {
+            made: Ok(output),
             line: Vec::new(alloc),
         },
         Err(refusal) => match fixed_line(refusal) {
@@ -83,22 +85,25 @@ fn settle(alloc: Global, made: Result<Vec<u8>, Refusal>) -> Settled
 /// What the command that the words fit prints, with the line of a refusal.
 pub(crate) fn settled_work<S: Shelf>(alloc: Global, words: &[String], shelf: &mut S) -> Settled
     ensures line { HasLine result }
-    ensures report { (files : Files) → IsOver (S.told shelf.old) words.now files
-        → IsAnswer words.now files (shown result.made) }
+    ensures report { (files : Files) → IsOver (S.told shelf.old) (command words.now) files
+        → IsAnswer (command words.now) files (made_as result.made) }
     ensures usage { IsErrOf result.made Refusal.Usage ↔ (command words.now ≡ None) }
 
     // The reads.
     ensures told { S.told shelf.new ≡ S.told shelf.old }
-    ensures reads { AfterReads S.after_read (IsReadBy (command words.now)) shelf.old shelf.new }
+    ensures reads { AfterReads S.after_read (IsReadBy (command words.now) (S.told shelf.old))
+        shelf.old shelf.new }
     ensures unread { command words.now ≡ None → shelf.new ≡ shelf.old }
 
     // The causes, and the counts.
     ensures failed { IsErrOf result.made Refusal.Failed
-        → ReadRaised words.now (S.faults shelf.old) (S.faults shelf.new) }
+        → ReadRaised (command words.now) (S.told shelf.old) (S.faults shelf.old) (S.faults shelf.new) }
     ensures lacks { (files : Files) → S.told shelf.old ≡ Some files
-        → IsErrOf result.made Refusal.Absent ↔ IsLacking words.now files }
+        → IsErrOf result.made Refusal.Absent → IsLacking (command words.now) files }
+    ensures lacking { (files : Files) → S.told shelf.old ≡ Some files
+        → LacksSurface (command words.now) files → IsErrOf result.made Refusal.Absent }
     ensures absent { S.told shelf.old ≡ None → IsErrOf result.made Refusal.Absent
-        → ReadRaised words.now (S.faults shelf.old) (S.faults shelf.new) }
+        → ReadRaised (command words.now) (S.told shelf.old) (S.faults shelf.old) (S.faults shelf.new) }
     ensures uncounted { (¬ IsErrOf result.made Refusal.Failed)
         → (¬ IsErrOf result.made Refusal.Absent)
         → SameCounts (S.faults shelf.old) (S.faults shelf.new) }
@@ -108,9 +113,9 @@ pub(crate) fn settled_work<S: Shelf>(alloc: Global, words: &[String], shelf: &mu
 
     // What is printed.
     ensures headline { (files : Files) → S.told shelf.old ≡ Some files
-        → IfOk result.made (λ bytes. IsHeadline (command words.now) files bytes.items) }
-    ensures some_files { IfOk result.made (λ bytes.
-        (files : Files) × IsHeadline (command words.now) files bytes.items) }
+        → IfOk result.made (λ output. IsOutputOf (command words.now) files files output) }
+    ensures some_files { IfOk result.made (λ output. (files : Files) × (later : Files)
+        × IsOutputOf (command words.now) files later output) }
 {
     let made = work(alloc, words, shelf);
     settle(alloc, made)

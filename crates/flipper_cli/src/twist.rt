@@ -6,7 +6,7 @@ ghost use Rattle.surface_lib.specs.Described.{described};
 ghost use Rattle.flipper_cli.specs.Coordinates.{numbers_in};
 ghost use Rattle.flipper_cli.specs.Headline.{AreTwistSteps, IsTwistLines};
 ghost use Rattle.flipper_cli.specs.Report.{IsNumbersReport, IsTwistReport, IsVectorReport};
-ghost use Rattle.flipper_cli.specs.Run.{shown};
+ghost use Rattle.flipper_cli.specs.inside.Shown.{shown};
 ghost use Rattle.flipper_cli.specs.Show.{line};
 ghost use Rattle.flipper_cli.specs.Twists.{hand_name, twist_lines};
 ghost use Rattle.flipper_cli.specs.inside.AboutSurfaces.{IsAboutSurface};

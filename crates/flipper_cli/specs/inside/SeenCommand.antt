@@ -1,11 +1,12 @@
 -- The source and the command that the code reads, as the definitions see them.
 use Rattle.std.specs.Prelude.{◌≡◌, List, ℕ, Some, map, string_bytes, unwrap_or}
 use Rattle.verdict_plan.specs.declared.budget.Budget.{Budget}
-use Rattle.flipper_cli.specs.Commands.{file, builtin, show, image, twist, classify}
+use Rattle.flipper_cli.specs.Commands.{file, builtin, show, image, twist, classify, check}
 use Rattle.flipper_cli.specs.Commands.{Source as SourceOfWords, Command as CommandOfWords}
 use Rattle.flipper_cli.specs.Options.{budget_of}
 use Rattle.flipper_cli.specs.declared.commands.Command.{Command}
 use Rattle.flipper_cli.specs.declared.commands.Command.TheVariants.{Show, Image, Twist, Classify}
+use Rattle.flipper_cli.specs.declared.commands.Command.TheVariants.{Check}
 use Rattle.flipper_cli.specs.declared.commands.Source.{Source}
 use Rattle.flipper_cli.specs.declared.commands.Source.TheVariants.{File, Builtin}
 
@@ -23,6 +24,7 @@ seen (Image source word coordinates) = image (seen_source source) word.now coord
 seen (Twist source coordinates hand) = twist (seen_source source) coordinates.now hand
 seen (Classify source word options) =
     classify (seen_source source) word.now (budget_given (map string_bytes options.now))
+seen (Check source word certificate) = check (seen_source source) word.now certificate.now
 
 -- its options, if there are any, fit
 abbrev pub HasBudget : Command → Type 0

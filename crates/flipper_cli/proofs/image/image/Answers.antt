@@ -2,7 +2,7 @@ use Rattle.std.proofs.Common.{◌≡◌, Err}
 use Rattle.tri_atlas.specs.Paths.{moves_of}
 use Rattle.surface_lib.specs.Described.{described}
 use Rattle.surface_lib.specs.Refusals.{moves_kind, reading}
-use Rattle.flipper_cli.specs.Run.{shown}
+use Rattle.flipper_cli.specs.inside.Shown.{shown}
 use Rattle.flipper_cli.specs.declared.refusal.Refusal.TheVariants.{Memory}
 use Rattle.flipper_cli.proofs.Answered.{image_reported}
 use Rattle.flipper_cli.proofs.image.image.Goals as goal

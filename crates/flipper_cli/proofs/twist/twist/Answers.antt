@@ -1,7 +1,7 @@
 use Rattle.std.proofs.Common.{◌≡◌, Err}
 use Rattle.surface_lib.specs.Described.{described}
 use Rattle.flipper_cli.specs.Report.{IsTwistReport}
-use Rattle.flipper_cli.specs.Run.{shown}
+use Rattle.flipper_cli.specs.inside.Shown.{shown}
 use Rattle.flipper_cli.specs.declared.refusal.Refusal.TheVariants.{Memory}
 use Rattle.flipper_cli.proofs.Answered.{numbers_reported}
 use Rattle.flipper_cli.proofs.twist.twist.Goals as goal
