@@ -31,15 +31,7 @@ next r p a so_far b new h e f = record {
 
 -- ---- what is put behind the words of loops
 
--- a letter x of the word `more`
-pub letters_on : (a more : List ℤ) (i : ℕ) (x : ℤ) → i < length more → x ≡ get_or more i x
-    → (a ++ take i more) ++ (x ∷ []) ≡ a ++ take (i + 1) more
-letters_on a more i x h e =
-    append_assoc a (take i more) (x ∷ [])
-    ∙ ap (λ (z : ℤ). a ++ (take i more ++ (z ∷ []))) e
-    ∙ ap (λ (z : List ℤ). a ++ z) (sym (take_more more i x h))
-
--- the inverse of a letter x of it, from its end on
+-- the inverse of a letter x of the word `more`, from its end on
 pub letters_back : (a more : List ℤ) (n k : ℕ) (x : ℤ) → n ≡ length more → k < n → x ≡ get_or more (n - 1 - k) x
     → (a ++ inverse_word (drop (n - k) more)) ++ (inverse x ∷ []) ≡ a ++ inverse_word (drop (n - (k + 1)) more)
 letters_back a more n k x long h e =

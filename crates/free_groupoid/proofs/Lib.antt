@@ -1,6 +1,8 @@
 pub mod Words
 pub mod InPlace
 pub mod Appending
+pub mod Joining
+pub mod Flipping
 pub mod Rewriting
 pub mod Lists
 pub mod Filling

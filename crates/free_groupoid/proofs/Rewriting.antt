@@ -1,6 +1,6 @@
--- A word under a move, letter by letter. Of a relabelling the images of the first n edges count, and each letter is of
--- one of them.
-use Rattle.std.proofs.Common.{ℕ, ℤ, List, [], ◌∷◌, ◌++◌, ◌≡◌, ◌+◌, ◌<◌, ◌≤◌, refl, sym, ◌∙◌, ap, subst, length, map}
+-- A word under a relabelling, letter by letter: the images of the first n edges count, and each letter is of one of
+-- them. And lists of words under any move.
+use Rattle.std.proofs.Common.{ℕ, ℤ, List, [], ◌∷◌, ◌++◌, ◌≡◌, ◌+◌, ◌<◌, ◌≤◌, sym, ◌∙◌, ap, subst, length, map}
 use Rattle.std.proofs.Common.{take, get_or, Vec}
 use Rattle.std.specs.Global.{Global}
 use Rattle.std.specs.List.{All, flat_map}
@@ -8,6 +8,8 @@ use Rattle.std.proofs.lemmas.List.{take_all}
 use Rattle.ideal_tri.specs.Labels.{edge_of}
 use Rattle.ideal_tri.specs.Words.{IsReduced, reduce}
 use Rattle.ideal_tri.specs.WordLaws.{ReductionLaws}
+use Rattle.ideal_tri.specs.Relabellings.{image_of}
+use Rattle.tri_atlas.specs.Moves.{relabel}
 use Rattle.tri_atlas.specs.Maps.{image_of_letter}
 use Rattle.tri_atlas.specs.Steps.{move_of}
 use Rattle.tri_atlas.specs.declared.step.Step.{Step}
@@ -17,32 +19,35 @@ use Rattle.free_groupoid.proofs.Appending.{Reduces, is_reduced, next, images_on}
 use Rattle.free_groupoid.proofs.Lists.{held_by_word, one_more_word, all_words}
 
 -- the word so far is the reduction of the images of the letters read, whatever the number of edges
-pub record IsMovedUpTo (step : Step) (w moved : List ℤ) (i : ℕ) : Type 0 where
-  pub value : (n : ℕ) → IsBelow n w → Reduces (flat_map (image_of_letter (move_of n step)) (take i w)) moved
+pub record IsMovedUpTo (images w moved : List ℤ) (i : ℕ) : Type 0 where
+  pub value : (n : ℕ) → IsBelow n w → Reduces (flat_map (image_of_letter (relabel (take n images))) (take i w)) moved
 
-pub moved_none : (step : Step) (w moved : List ℤ) → moved ≡ [] → IsMovedUpTo step w moved 0
-moved_none step w moved e = record { value = λ n below. record { value = e } }
+pub moved_none : (images w moved : List ℤ) → moved ≡ [] → IsMovedUpTo images w moved 0
+moved_none images w moved e = record { value = λ n below. record { value = e } }
 
-pub moved_reduced : ReductionLaws → (step : Step) (w moved : List ℤ) (i n : ℕ) → IsMovedUpTo step w moved i
-    → IsBelow n w → IsReduced moved
-moved_reduced r step w moved i n h below = is_reduced r _ _ (h.value n below)
+pub moved_reduced : ReductionLaws → (images w moved : List ℤ) (i n : ℕ) → IsMovedUpTo images w moved i → IsBelow n w
+    → IsReduced moved
+moved_reduced r images w moved i n h below = is_reduced r _ _ (h.value n below)
 
-pub moved_more : ReductionLaws → (step : Step) (w moved new : List ℤ) (i : ℕ) (x : ℤ) → IsMovedUpTo step w moved i
+-- y is the image of the next letter x
+pub moved_more : ReductionLaws → (images w moved new : List ℤ) (i : ℕ) (x y : ℤ) → IsMovedUpTo images w moved i
     → i < length w
-    → x ≡ get_or w i x → ((n : ℕ) → edge_of x < n → new ≡ reduce (moved ++ image_of_letter (move_of n step) x))
-    → IsMovedUpTo step w new (i + 1)
-moved_more r step w moved new i x h inside is_x pushed = record {
+    → x ≡ get_or w i x → new ≡ reduce (moved ++ (y ∷ []))
+    → ((n : ℕ) → edge_of x < n → y ≡ image_of (take n images) x)
+    → IsMovedUpTo images w new (i + 1)
+moved_more r images w moved new i x y h inside is_x pushed is_image = record {
   value = λ n below.
-      let edge : edge_of x < n = subst (λ (y : ℤ). edge_of y < n) (sym is_x) (below i x inside) in
-      next r (image_of_letter (move_of n step) x) _ _ _ _ (h.value n below) (pushed n edge)
-      (images_on (image_of_letter (move_of n step)) w i x (image_of_letter (move_of n step) x) inside is_x refl);
+      let edge : edge_of x < n = subst (λ (z : ℤ). edge_of z < n) (sym is_x) (below i x inside) in
+      next r (y ∷ []) _ _ _ _ (h.value n below) pushed
+      (images_on (image_of_letter (relabel (take n images))) w i x (y ∷ []) inside is_x
+      (ap (λ (z : ℤ). z ∷ []) (is_image n edge)));
 }
 
-pub moved_all : (step : Step) (w moved : List ℤ) (i n : ℕ) → IsMovedUpTo step w moved i → length w ≤ i → IsBelow n w
-    → moved ≡ reduced_image (image_of_letter (move_of n step)) w
-moved_all step w moved i n h all below =
-    let whole : Reduces (flat_map (image_of_letter (move_of n step)) (take i w)) moved = h.value n below in
-    whole.value ∙ ap (λ (u : List ℤ). reduce (flat_map (image_of_letter (move_of n step)) u)) (take_all i w all)
+pub moved_all : (images w moved : List ℤ) (i n : ℕ) → IsMovedUpTo images w moved i → length w ≤ i → IsBelow n w
+    → moved ≡ reduced_image (image_of_letter (relabel (take n images))) w
+moved_all images w moved i n h all below =
+    let whole : Reduces (flat_map (image_of_letter (relabel (take n images))) (take i w)) moved = h.value n below in
+    whole.value ∙ ap (reduced_image (image_of_letter (relabel (take n images)))) (take_all i w all)
 
 -- ---- a list of words
 

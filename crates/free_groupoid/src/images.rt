@@ -1,16 +1,17 @@
 //! Lists of words, one for each edge, in the place of letters.
-ghost use Rattle.std.specs.Prelude.{◌≡◌, ◌<◌, ◌≤◌, ◌^◌, ◌++◌, ℕ, length, map, IfOk, OnOk, IfSome};
-ghost use Rattle.std.specs.Prelude.{IfNone, All};
-ghost use Rattle.ideal_tri.specs.Words.{reduce, inverse_word, IsReduced};
-ghost use Rattle.tri_atlas.specs.Maps.{image_of_letter};
+ghost use Rattle.std.specs.Prelude.{◌≡◌, ◌<◌, ◌≤◌, ◌^◌, ℕ, length, take, map, IfOk, IfSome, IfNone};
+ghost use Rattle.std.specs.Prelude.{All};
+ghost use Rattle.ideal_tri.specs.Words.{IsReduced};
+ghost use Rattle.tri_atlas.specs.Maps.{flip_image, image_of_letter};
+ghost use Rattle.tri_atlas.specs.Moves.{relabel};
 ghost use Rattle.tri_atlas.specs.Steps.{move_of};
 ghost use Rattle.free_groupoid.specs.GroupoidMaps.{substitution, reduced_image, letters_in};
 ghost use Rattle.free_groupoid.specs.inside.Images.{words_of, IsBelow};
 ghost use Rattle.free_groupoid.specs.MapRefusals.{told};
 
-use crate::letter::push_image;
-use crate::word::push_reduced;
-use ideal_tri::{EDGES, Label, Memory, word_laws};
+use crate::letter::{is_on_side, push_flip_image, relabelled};
+use crate::word::{append_inverse_reduced, append_reduced, push_reduced};
+use ideal_tri::{EDGES, Label, Memory, label_laws, word_laws};
 use smallvec::SmallVec;
 use std::alloc::Global;
 use tri_atlas::Step;
@@ -18,9 +19,10 @@ use tri_atlas::Step;
 /// The words for the labels 0, 1, .. of as many edges as a triangulation may have.
 pub(crate) type Words = SmallVec<Vec<Label>, EDGES>;
 
-/// The words under a move, each reduced.
+/// Reduced words under a move, each reduced again.
 pub(crate) fn moved_words(alloc: Global, step: &Step, words: &[Vec<Label>]) -> Result<Words, Memory>
-    requires { All (IsBelow EDGES) (words_of words.now) }
+    requires below { All (IsBelow EDGES) (words_of words.now) }
+    requires reduced { All IsReduced (words_of words.now) }
     ensures { IfOk result (λ v. (n : ℕ) → All (IsBelow n) (words_of words.now) → words_of v.items
         ≡ map (reduced_image (image_of_letter (move_of n step.now))) (words_of words.now)) }
 {
@@ -34,14 +36,60 @@ pub(crate) fn moved_words(alloc: Global, step: &Step, words: &[Vec<Label>]) -> R
 /// A word under a move, reduced as it grows. A letter has at most three images, and the room for
 /// all of them is taken first.
 fn moved_word(alloc: Global, step: &Step, word: &[Label]) -> Result<Vec<Label>, Memory>
-    requires { IsBelow EDGES word.now }
+    requires below { IsBelow EDGES word.now }
+    requires reduced { IsReduced word.now }
     ensures { IfOk result (λ v. (n : ℕ) → IsBelow n word.now
         → v.items ≡ reduced_image (image_of_letter (move_of n step.now)) word.now) }
 {
+    match step {
+        Step::Flip { e, b, d, .. } => flipped_word(alloc, *e, *b, *d, word),
+        Step::Unflip { e, b, d, .. } => flipped_word(alloc, e.inverse(), *b, *d, word),
+        Step::Relabel(images) => relabelled_word(alloc, images, word),
+    }
+}
+
+/// A reduced word under the flip of `e` with these sides. Only letters on the sides change, so the
+/// letters between two of them go over in one piece.
+fn flipped_word(
+    alloc: Global,
+    e: Label,
+    b: Label,
+    d: Label,
+    word: &[Label],
+) -> Result<Vec<Label>, Memory>
+    requires { IsReduced word.now }
+    ensures { IfOk result (λ v. v.items ≡ reduced_image (flip_image e b d) word.now) }
+{
+    label_laws();
     word_laws();
     let mut moved = Vec::with_capacity(alloc, word.len().saturating_mul(3))?;
+    let mut start = 0;
+    for i in 0..word.len() {
+        let x = word[i];
+        if is_on_side(b, d, x) {
+            append_reduced(&mut moved, &word[start..i])?;
+            push_flip_image(&mut moved, e, b, d, x)?;
+            start = i + 1;
+        }
+    }
+    append_reduced(&mut moved, &word[start..])?;
+    Ok(moved)
+}
+
+/// A word under a relabelling. Only the images of as many labels count as there are edges.
+fn relabelled_word(
+    alloc: Global,
+    images: &[Label; EDGES],
+    word: &[Label],
+) -> Result<Vec<Label>, Memory>
+    requires { IsBelow EDGES word.now }
+    ensures { IfOk result (λ v. (n : ℕ) → IsBelow n word.now
+        → v.items ≡ reduced_image (image_of_letter (relabel (take n images.now))) word.now) }
+{
+    word_laws();
+    let mut moved = Vec::with_capacity(alloc, word.len())?;
     for x in word {
-        push_image(&mut moved, step, *x)?;
+        push_reduced(&mut moved, relabelled(images, *x))?;
     }
     Ok(moved)
 }
@@ -52,7 +100,8 @@ pub(crate) fn composed_words(
     words: &[Vec<Label>],
     others: &[Vec<Label>],
 ) -> Result<Words, Memory>
-    requires { All (IsBelow (length others.now)) (words_of words.now) }
+    requires below { All (IsBelow (length others.now)) (words_of words.now) }
+    requires reduced { All IsReduced (words_of others.now) }
     ensures { IfOk result (λ v. words_of v.items
         ≡ map (reduced_image (substitution (words_of others.now))) (words_of words.now)) }
 {
@@ -63,13 +112,14 @@ pub(crate) fn composed_words(
     Ok(composed)
 }
 
-/// A word with these words in the place of its letters, reduced as it grows.
+/// A word with these reduced words in the place of its letters, reduced as it grows.
 pub(crate) fn substituted(
     alloc: Global,
     words: &[Vec<Label>],
     word: &[Label],
 ) -> Result<Vec<Label>, Memory>
-    requires { IsBelow (length words.now) word.now }
+    requires below { IsBelow (length words.now) word.now }
+    requires reduced { All IsReduced (words_of words.now) }
     ensures { IfOk result (λ v. v.items ≡ reduced_image (substitution (words_of words.now))
         word.now) }
 {
@@ -84,31 +134,6 @@ pub(crate) fn substituted(
         }
     }
     Ok(image)
-}
-
-/// Puts a word behind a reduced word, and reduces it again.
-fn append_reduced(word: &mut Vec<Label>, more: &[Label]) -> Result<(), Memory>
-    requires { IsReduced word.old.items }
-    ensures { OnOk result (word.new.items ≡ reduce (word.old.items ++ more.now)) }
-{
-    word_laws();
-    for x in more {
-        push_reduced(word, *x)?;
-    }
-    Ok(())
-}
-
-/// Puts the way back along a word behind a reduced word, and reduces it again.
-fn append_inverse_reduced(word: &mut Vec<Label>, more: &[Label]) -> Result<(), Memory>
-    requires { IsReduced word.old.items }
-    ensures { OnOk result (word.new.items ≡ reduce (word.old.items ++ inverse_word more.now)) }
-{
-    word_laws();
-    let count = more.len();
-    for k in 0..count {
-        push_reduced(word, more[count - 1 - k].inverse())?;
-    }
-    Ok(())
 }
 
 /// How many letters the words have together, or 2^64 - 1 where there are more.

@@ -1,6 +1,7 @@
 //! The test whether a map is inner.
 ghost use Rattle.std.specs.Prelude.{◌≡◌, ◌<◌, ◌↔◌, length, IsTrue, IfOk, All};
 ghost use Rattle.free_groupoid.specs.GroupoidMaps.{substitution};
+ghost use Rattle.ideal_tri.specs.Words.{IsReduced};
 ghost use Rattle.free_groupoid.specs.Inner.{IsKept};
 ghost use Rattle.free_groupoid.specs.InnerAnswers.{IsSelfMap, IsInnerAnswer};
 ghost use Rattle.free_groupoid.specs.inside.Images.{IsBelow};
@@ -60,7 +61,8 @@ pub fn inner(alloc: Global, tri: &Tri, f: &Map) -> Result<InnerAnswer, Memory>
 /// Whether the image of a closed walk, reduced as a closed walk, is the walk begun at one of its
 /// places.
 fn is_kept(alloc: Global, f: &Map, word: &[Label]) -> Result<bool, Memory>
-    requires { IsBelow (length f.now.images) word.now }
+    requires below { IsBelow (length f.now.images) word.now }
+    requires reduced { All IsReduced f.now.images }
     ensures { IfOk result (λ b. IsTrue b ↔ IsKept (substitution f.now.images) word.now) }
 {
     word_laws();

@@ -1,5 +1,6 @@
 //! The image of a letter under a move.
-ghost use Rattle.std.specs.Prelude.{◌≡◌, ◌<◌, ◌++◌, ◌∷◌, [], ℕ, take, OnOk};
+ghost use Rattle.std.specs.Prelude.{◌≡◌, ◌↔◌, ◌<◌, ◌++◌, ◌∷◌, [], ℕ, take, OnOk};
+ghost use Rattle.std.specs.Prelude.{IsTrue};
 ghost use Rattle.std.specs.Option.{option_to_list};
 ghost use Rattle.ideal_tri.specs.Labels.{inverse, edge_of};
 ghost use Rattle.ideal_tri.specs.Words.{inverse_word, reduce, IsReduced};
@@ -7,7 +8,7 @@ ghost use Rattle.ideal_tri.specs.Triangulations.{IsLabel};
 ghost use Rattle.ideal_tri.specs.Relabellings.{image_of};
 ghost use Rattle.tri_atlas.specs.Arena.{triangulation, IsMoveIn, source_of, step_of};
 ghost use Rattle.tri_atlas.specs.Maps.{step_before, flip_image, image_of_letter};
-ghost use Rattle.tri_atlas.specs.Steps.{move_of};
+ghost use Rattle.free_groupoid.specs.inside.Images.{IsOnSide};
 
 use crate::word::push_reduced;
 use ideal_tri::{EDGES, Label, Memory, word_laws};
@@ -54,22 +55,9 @@ fn flip_image(alloc: Global, e: Label, b: Label, d: Label, x: Label) -> LetterIm
     image
 }
 
-/// Puts the image of a letter behind a reduced word, and reduces it again.
-pub(crate) fn push_image(word: &mut Vec<Label>, step: &Step, x: Label) -> Result<(), Memory>
-    requires reduced { IsReduced word.old.items }
-    requires label { edge_of x < EDGES }
-    ensures { OnOk result ((n : ℕ) → edge_of x < n
-        → word.new.items ≡ reduce (word.old.items ++ image_of_letter (move_of n step.now) x)) }
-{
-    match step {
-        Step::Flip { e, b, d, .. } => push_flip_image(word, *e, *b, *d, x),
-        Step::Unflip { e, b, d, .. } => push_flip_image(word, e.inverse(), *b, *d, x),
-        Step::Relabel(images) => push_reduced(word, relabelled(images, x)),
-    }
-}
-
-/// The same for the flip of `e` with these sides.
-fn push_flip_image(
+/// Puts the image of a letter under the flip of `e` with these sides behind a reduced word, and
+/// reduces it again.
+pub(crate) fn push_flip_image(
     word: &mut Vec<Label>,
     e: Label,
     b: Label,
@@ -97,6 +85,14 @@ fn push_if_any(word: &mut Vec<Label>, x: Option<Label>) -> Result<(), Memory>
         Some(x) => push_reduced(word, x),
         None => Ok(()),
     }
+}
+
+/// Whether a letter is of the edge of one of these sides. A flip leaves all other letters as they
+/// are.
+pub(crate) fn is_on_side(b: Label, d: Label, x: Label) -> bool
+    ensures { IsTrue result ↔ IsOnSide b d x }
+{
+    x.edge() == b.edge() || x.edge() == d.edge()
 }
 
 /// The step along the new edge that a flip of `e` with these sides puts before a letter.

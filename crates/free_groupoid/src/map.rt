@@ -1,6 +1,7 @@
 //! Maps of walks from one triangulation to another.
 ghost use Rattle.std.specs.Prelude.{◌≡◌, ◌<◌, ◌≤◌, ◌^◌, ℕ, List, length, map, slice_index, IfOk};
-ghost use Rattle.std.specs.Prelude.{IfErr, OnOk};
+ghost use Rattle.std.specs.Prelude.{IfErr, OnOk, All};
+ghost use Rattle.ideal_tri.specs.Words.{IsReduced};
 ghost use Rattle.ideal_tri.specs.Triangulations.{edge_count};
 ghost use Rattle.tri_atlas.specs.Arena.{Arena, IsArena, triangulation, IsTriIn, IsMoveIn};
 ghost use Rattle.tri_atlas.specs.Arena.{source_of};
@@ -240,7 +241,8 @@ impl Map {
 
     /// A word with the images in the place of its letters, reduced.
     pub(crate) fn substituted(&self, alloc: Global, word: &[Label]) -> Result<Vec<Label>, Memory>
-        requires { IsBelow (length self.now.images) word.now }
+        requires below { IsBelow (length self.now.images) word.now }
+        requires reduced { All IsReduced self.now.images }
         ensures { IfOk result (λ v. v.items ≡ reduced_image (substitution self.now.images)
             word.now) }
     {

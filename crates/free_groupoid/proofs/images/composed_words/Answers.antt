@@ -4,10 +4,10 @@ use Rattle.free_groupoid.specs.inside.Images.{words_of, IsBelow}
 use Rattle.free_groupoid.proofs.Lists.{held_by_word, one_more_word, all_words}
 use Rattle.free_groupoid.proofs.images.composed_words.Goals as goal
 
-pub substituted-requires : goal.substituted-requires
-substituted-requires c =
+pub substituted-requires-clause-below : goal.substituted-requires-clause-below
+substituted-requires-clause-below c =
     subst (IsBelow (length c.args.others.now)) (sym c.deref.ensures.value)
-    (held_by_word (IsBelow (length c.args.others.now)) _ _ c.loop-word.word-index c.requires c.loop-word-test.true
+    (held_by_word (IsBelow (length c.args.others.now)) _ _ c.loop-word.word-index c.requires.below c.loop-word-test.true
     c.word-item.is)
 
 pub loop-word-preserved : goal.loop-word-preserved

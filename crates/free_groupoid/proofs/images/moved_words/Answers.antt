@@ -1,6 +1,7 @@
 use Rattle.std.proofs.Common.{sym, subst, ap, ◌∙◌}
 use Rattle.tri_atlas.specs.Maps.{image_of_letter}
 use Rattle.tri_atlas.specs.Steps.{move_of}
+use Rattle.ideal_tri.specs.Words.{IsReduced}
 use Rattle.ideal_tri.specs.declared.tri.TheConstants.{EDGES}
 use Rattle.free_groupoid.specs.GroupoidMaps.{reduced_image}
 use Rattle.free_groupoid.specs.inside.Images.{IsBelow}
@@ -11,10 +12,15 @@ use Rattle.free_groupoid.proofs.images.moved_words.Goals as goal
 pub loop-word-init : goal.loop-word-init
 loop-word-init c = words_none _ _ _ c.new-moved.ensures.items
 
-pub moved_word-requires : goal.moved_word-requires
-moved_word-requires c =
+pub moved_word-requires-clause-below : goal.moved_word-requires-clause-below
+moved_word-requires-clause-below c =
     subst (IsBelow EDGES) (sym c.deref.ensures.value)
-    (held_by_word (IsBelow EDGES) _ _ c.loop-word.word-index c.requires c.loop-word-test.true c.word-item.is)
+    (held_by_word (IsBelow EDGES) _ _ c.loop-word.word-index c.requires.below c.loop-word-test.true c.word-item.is)
+
+pub moved_word-requires-clause-reduced : goal.moved_word-requires-clause-reduced
+moved_word-requires-clause-reduced c =
+    subst IsReduced (sym c.deref.ensures.value)
+    (held_by_word IsReduced _ _ c.loop-word.word-index c.requires.reduced c.loop-word-test.true c.word-item.is)
 
 pub loop-word-preserved : goal.loop-word-preserved
 loop-word-preserved c =

@@ -1,12 +1,24 @@
-use Rattle.std.proofs.Common.{◌<◌, ◌≤ℤ◌, ◌<ℤ◌, pos, length, ap, ◌∙◌, rules}
-use Rattle.ideal_tri.specs.Words.{inverse_word}
+use Rattle.std.proofs.Common.{◌<◌, ◌≤ℤ◌, ◌<ℤ◌, pos, length, sym, subst, ap, ◌∙◌, rules}
+use Rattle.ideal_tri.specs.Words.{inverse_word, IsReduced}
 use Rattle.free_groupoid.specs.GroupoidMaps.{substitution}
 use Rattle.free_groupoid.specs.inside.Images.{words_of}
 use Rattle.free_groupoid.proofs.Appending.{next, images_on}
-use Rattle.free_groupoid.proofs.Lists.{image_on, image_back}
+use Rattle.free_groupoid.proofs.Lists.{image_on, image_back, held_by_word}
 use Rattle.free_groupoid.proofs.images.substituted.Goals as goal
 use Rattle.free_groupoid.proofs.images.substituted.Goals.{then-get-ge0+in_ok-append_reduced}
 use Rattle.free_groupoid.proofs.images.substituted.Goals.{else-get-ge0+in_ok-append_inverse_reduced}
+
+pub append_reduced-requires-clause-more : goal.append_reduced-requires-clause-more
+append_reduced-requires-clause-more c =
+    let inside : c.edge.result < length c.args.words.now = search rules in
+    subst IsReduced (sym c.deref.ensures.value)
+    (held_by_word IsReduced _ _ c.edge.result c.requires.reduced inside c.index-words-edge.is)
+
+pub append_inverse_reduced-requires-clause-more : goal.append_inverse_reduced-requires-clause-more
+append_inverse_reduced-requires-clause-more c =
+    let inside : c.edge.result < length c.args.words.now = search rules in
+    subst IsReduced (sym c.deref-else-get-ge0.ensures.value)
+    (held_by_word IsReduced _ _ c.edge.result c.requires.reduced inside c.index-words-edge.is)
 
 pub loop-x-preserved : goal.loop-x-preserved
 loop-x-preserved c =

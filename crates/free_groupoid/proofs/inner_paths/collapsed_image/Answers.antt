@@ -26,11 +26,11 @@ is_loop c =
     ∙ ap (λ (w : List ℤ). w ++ loop c.args.tri.now c.label.result) c.new-word.ensures.items
     ∙ ap (loop c.args.tri.now) c.label.ensures
 
-pub substituted-requires : goal.substituted-requires
-substituted-requires c =
+pub substituted-requires-clause-below : goal.substituted-requires-clause-below
+substituted-requires-clause-below c =
     labels_below c.args.tri.now c.args.f.now c.deref.result.now c.requires.map
-    (subst (All (IsLabel c.args.tri.now)) (sym (is_loop (goal.at.substituted-requires c).After-deref))
-    (loop_labels c.args.tri.now (laws (goal.at.substituted-requires c).After-triangles) (pos c.args.e) c.requires.edge))
+    (subst (All (IsLabel c.args.tri.now)) (sym (is_loop (goal.at.substituted-requires-clause-below c).After-deref))
+    (loop_labels c.args.tri.now (laws (goal.at.substituted-requires-clause-below c).After-triangles) (pos c.args.e) c.requires.edge))
 
 pub returns-clause-value : goal.returns-clause-value
 returns-clause-value c =

@@ -35,9 +35,9 @@ index-root-requires c =
     (inside c) in
     omega (arith, is_root c, words_count (root_word c.args.tri.now c.args.f.now) _ _ c.in_ok-roots.ensures)
 
-pub substituted-requires : goal.substituted-requires
-substituted-requires c =
-    let before = goal.at.substituted-requires c in
+pub substituted-requires-clause-below : goal.substituted-requires-clause-below
+substituted-requires-clause-below c =
+    let before = goal.at.substituted-requires-clause-below c in
     tree_below c.args.tri.now c.args.f.now (laws before.After-triangles) c.loop-t.t c.walk-walk.result.now
     c.requires.map (inside before.After-root)
     (c.walk-walk.ensures ∙ walk_read _ _ _ c.requires.trees)

@@ -15,8 +15,8 @@ loop-word-init c = record {
       (c.inner_laws.ensures.test.loops c.args.tri.now c.triangles.ensures.sound);
 }
 
-pub is_kept-requires : goal.is_kept-requires
-is_kept-requires c =
+pub is_kept-requires-clause-below : goal.is_kept-requires-clause-below
+is_kept-requires-clause-below c =
     subst (IsBelow _) (sym c.deref.ensures.value)
     (loop_below c.args.tri.now c.args.f.now c.surface_laws.ensures _ c.requires
     (next_loop _ _ _ _ _ c.loop-word.invariant.search c.in-Some.ensures.steps.0))

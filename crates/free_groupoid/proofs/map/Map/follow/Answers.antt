@@ -2,6 +2,7 @@ use Rattle.std.proofs.Common.{◌≡◌, ◌∙◌, ◌<◌, ◌≤◌, ℕ, ℤ
 use Rattle.std.specs.Global.{Global}
 use Rattle.std.specs.List.{All}
 use Rattle.std.proofs.lemmas.List.{length-map}
+use Rattle.ideal_tri.specs.Words.{IsReduced}
 use Rattle.ideal_tri.specs.Triangulations.{edge_count}
 use Rattle.ideal_tri.specs.declared.tri.TheConstants.{EDGES}
 use Rattle.tri_atlas.specs.Arena.{triangulation, source_of, step_of}
@@ -20,10 +21,15 @@ use Rattle.free_groupoid.proofs.map.Map.follow.Goals.{After-as_slice, After-move
 words_read : (c : After-as_slice) → words_of c.as_slice.result.now ≡ c.args.self.now.images
 words_read c = ap words_of c.as_slice.ensures ∙ ap (λ (f : GroupoidMap). f.images) c.self.view_is
 
-pub moved_words-requires : goal.moved_words-requires
-moved_words-requires c =
-    subst (All (IsBelow EDGES)) (sym (words_read (goal.at.moved_words-requires c).After-as_slice))
+pub moved_words-requires-clause-below : goal.moved_words-requires-clause-below
+moved_words-requires-clause-below c =
+    subst (All (IsBelow EDGES)) (sym (words_read (goal.at.moved_words-requires-clause-below c).After-as_slice))
     (images_few c.surface_laws.ensures c.args.atlas.now c.args.self.now c.base.ensures.sound c.requires.map)
+
+pub moved_words-requires-clause-reduced : goal.moved_words-requires-clause-reduced
+moved_words-requires-clause-reduced c =
+    subst (All IsReduced) (sym (words_read (goal.at.moved_words-requires-clause-reduced c).After-as_slice))
+    c.requires.map.reduced
 
 pub moved_triangles-self-inside-requires-clause-within : goal.moved_triangles-self-inside-requires-clause-within
 moved_triangles-self-inside-requires-clause-within c =

@@ -1,5 +1,0 @@
-use Rattle.free_groupoid.proofs.Rewriting.{IsMovedUpTo}
-use Rattle.free_groupoid.proofs.images.moved_word.Given as goal
-
-abbrev pub invariant-loop-x : goal.invariant-loop-x
-invariant-loop-x l = IsMovedUpTo l.step l.word l.moved.items l.x-index
