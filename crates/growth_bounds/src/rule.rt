@@ -3,7 +3,7 @@ ghost use Rattle.std.specs.Prelude.{◌≡◌, ◌<◌, ◌≤◌, ◌+◌, ◌*
 ghost use Rattle.std.specs.Prelude.{IsTrue, true, false, IfOk, IfSome, IfNone, MatchOption};
 ghost use Rattle.transition_matrix.specs.Matrices.{entry, sum_below};
 ghost use Rattle.transition_matrix.specs.Bounds.{times, IsBounds};
-ghost use Rattle.growth_bounds.specs.Rule.{Grows, IsRuledBy};
+ghost use Rattle.growth_bounds.specs.Rule.{Grows, IsFirstGrowth, IsLeastRatio, IsRuledBy, turned};
 ghost use Rattle.growth_bounds.specs.inside.Reached.{IsFound, IsGrowing};
 
 use crate::ratio::least_ratio;
@@ -47,20 +47,35 @@ pub fn bounds(alloc: Global, m: &Matrix) -> Result<Option<GrowthBounds>, Memory>
     if !find_growth(m, &mut u, &mut v) {
         return Ok(None);
     }
-    let low = least_ratio(&v, &u);
-    let (below, above) = least_ratio(&u, &v);
-    Ok(Some(GrowthBounds {
+    Ok(Some(with_ratios(u, &v)))
+}
+
+/// The row with the least and the greatest ratio of the second row to it.
+pub(crate) fn with_ratios(u: Vec<u64>, v: &[u64]) -> GrowthBounds
+    requires some { 0 < length v.now }
+    requires same { length u.items ≡ length v.now }
+    requires small { All (λ n. n < 2 ^ 63) u.items × All (λ n. n < 2 ^ 63) v.now }
+    requires positive { All (λ n. 0 < n) u.items × All (λ n. 0 < n) v.now }
+    ensures row { result.u.items ≡ u.items }
+    ensures low { IsLeastRatio (length v.now) (slice_index v.now) (slice_index u.items)
+        result.low }
+    ensures high { IsLeastRatio (length v.now) (slice_index u.items) (slice_index v.now)
+        (turned result.high) }
+{
+    let low = least_ratio(v, &u);
+    let (below, above) = least_ratio(&u, v);
+    GrowthBounds {
         u,
         low,
         high: (above, below),
-    }))
+    }
 }
 
 /// Looks for the first row that grows, from the row of ones on; the second row is the next one.
-fn find_growth(m: &Matrix, u: &mut [u64], v: &mut [u64]) -> bool
+pub(crate) fn find_growth(m: &Matrix, u: &mut [u64], v: &mut [u64]) -> bool
     requires size { (length u.old ≡ m.now.size) × (length v.old ≡ m.now.size) }
     requires ones { (i : ℕ) → i < m.now.size → slice_index u.old i ≡ 1 }
-    ensures found { result ≡ true → IsFound m.now u.new v.new }
+    ensures found { result ≡ true → IsFound m.now (IsFirstGrowth m.now) u.new v.new }
     ensures none { result ≡ false → (j : ℕ) → 4 ≤ j → j ≤ 64 → ¬ Grows m.now j }
 {
     matrix_laws();
@@ -96,7 +111,7 @@ fn product_at(m: &Matrix, u: &[u64], j: usize) -> Option<u64>
 }
 
 /// Writes down the row times the matrix, if all its entries are below 2^63.
-fn multiply(m: &Matrix, u: &[u64], v: &mut [u64]) -> bool
+pub(crate) fn multiply(m: &Matrix, u: &[u64], v: &mut [u64]) -> bool
     requires size { (length u.now ≡ m.now.size) × (length v.old ≡ m.now.size) }
     requires small { All (λ n. n < 2 ^ 63) u.now }
     ensures written { result ≡ true → (i : ℕ) → i < m.now.size
@@ -115,7 +130,7 @@ fn multiply(m: &Matrix, u: &[u64], v: &mut [u64]) -> bool
 }
 
 /// Whether the first row is positive and the second is greater in every entry.
-fn is_growing(u: &[u64], v: &[u64]) -> bool
+pub(crate) fn is_growing(u: &[u64], v: &[u64]) -> bool
     requires { length v.now ≡ length u.now }
     ensures { IsTrue result ↔ IsGrowing u.now v.now }
 {

@@ -1,4 +1,4 @@
-use Rattle.std.proofs.Common.{◌≡◌, ◌<◌, ◌≤◌, ◌+◌, ◌*◌, ℕ, slice_index, sym, ◌∙◌, subst, arith}
+use Rattle.std.proofs.Common.{◌+◌, ℕ, slice_index, sym, ◌∙◌, subst, arith}
 use Rattle.std.proofs.lemmas.Bool.{ltb-true, ltb-false}
 use Rattle.growth_bounds.specs.Rule.{IsLeastRatio}
 use Rattle.growth_bounds.proofs.Ratios.{smaller_ratio, kept_ratio}

@@ -1,4 +1,4 @@
-use Rattle.std.proofs.Common.{◌≡◌, ◌<◌, ◌≤◌, ◌+◌, ◌*◌, ℕ, slice_index, add-one, sym, ◌∙◌, ap, subst, arith}
+use Rattle.std.proofs.Common.{◌≡◌, ◌+◌, ◌*◌, ℕ, slice_index, add-one, ap, arith}
 use Rattle.transition_matrix.specs.Matrices.{entry, sum_below}
 use Rattle.growth_bounds.proofs.rule.product_at.Goals as goal
 

@@ -1,4 +1,4 @@
-use Rattle.std.proofs.Common.{◌≡◌, ◌<◌, ◌*◌, ◌^◌, ℕ, slice_index}
+use Rattle.std.proofs.Common.{◌≡◌, ◌<◌, ◌*◌, ◌^◌, slice_index}
 use Rattle.transition_matrix.specs.Matrices.{entry, sum_below}
 use Rattle.growth_bounds.proofs.rule.product_at.Given as goal
 
