@@ -24,6 +24,8 @@ use Rattle.carry_map.specs.AnchorAnswers.{IsAnchored, AreAnchors, place_at, IsFi
 use Rattle.carry_map.specs.AnchorAnswers.{FitsBy, walk_by, carrying_by}
 use Rattle.carry_map.specs.CarriedMaps.{Carrying, goes_to, connection, beside, final, IsTrainPath}
 use Rattle.carry_map.specs.AgreementLaws.{AgreeOn, BranchAgreement, AgreementLaws}
+use Rattle.carry_map.specs.MiddleAnchors.{AreMiddleAnchors}
+use Rattle.carry_map.proofs.AgreeingMiddles.{between_agree, middles_agree}
 use Rattle.carry_map.proofs.WordParts.{but_last_and_last, all_left, all_last}
 
 -- ---- the letters of a branch
@@ -255,12 +257,23 @@ module _ (surfaces : SurfaceLaws) (substitutions : SubstitutionLaws) (words : Wo
     };
   }
 
+  pub middle_places_agree : (branches : List (List ℤ)) → IsBranchList ts out branches → (anchors : List Place)
+      → AreMiddleAnchors ts out branches f anchors → AreMiddleAnchors ts out branches g anchors
+  middle_places_agree branches list =
+      middles_agree ts out f g branches places_agree
+      (λ all j d less.
+      (let labels : AreLabels ts (get_or branches j d) =
+      of_branch surfaces ts out (get_or branches j d) (list.branch j d less) in
+      between_agree ts out f g agree all (get_or branches j d) labels.first labels.last
+      (images_agree surfaces substitutions words ts out f g agree (but_last (get_or branches j d)) labels.front)))
+
   pub agreement : AgreementLaws ts out f g
   agreement = record {
     maps = maps_agree surfaces substitutions words ts out f g agree;
     places = places_agree;
     anchors = anchors_agree;
     without = without_agree;
+    middles = middle_places_agree;
     path = path_agree surfaces substitutions words ts out f g agree;
     along = along_agree surfaces substitutions words ts out f g agree;
     branches = branches_agree;

@@ -19,7 +19,7 @@ backwards (negsuc n) other = refl
 
 module _ (labels : LabelLaws) (switches : List ℤ) (anchors : List Place) (as_many : length anchors ≡ length switches)
   where
-    beside_label : (s : ℤ) (i : ℕ) (p : Place) → IsFirstAt switches s i → p ≡ get_or anchors i p
+    pub beside_label : (s : ℤ) (i : ℕ) (p : Place) → IsFirstAt switches s i → p ≡ get_or anchors i p
         → beside (pos 0) switches (map (λ (q : Place). q.label) anchors) s ≡ p.label
     beside_label s i p at e =
         beside_first labels (pos 0) switches (map (λ (q : Place). q.label) anchors) s i at
@@ -27,7 +27,7 @@ module _ (labels : LabelLaws) (switches : List ℤ) (anchors : List Place) (as_m
         ∙ get_or-map (λ (q : Place). q.label) anchors i p (pos 0) (let w = at.within in omega (arith, as_many))
         ∙ ap (λ (q : Place). q.label) (sym e)
 
-    beside_walk : (s : ℤ) (i : ℕ) (p : Place) → IsFirstAt switches s i → p ≡ get_or anchors i p
+    pub beside_walk : (s : ℤ) (i : ℕ) (p : Place) → IsFirstAt switches s i → p ≡ get_or anchors i p
         → beside [] switches (map (λ (q : Place). q.connect) anchors) s ≡ p.connect
     beside_walk s i p at e =
         beside_first labels [] switches (map (λ (q : Place). q.connect) anchors) s i at

@@ -41,6 +41,8 @@ pub mod FirstOfLists
 pub mod RayPlaces
 pub mod ReachedPlaces
 pub mod PlacesFound
+-- the greatest heights, by lowering
+pub mod LoweredHeights
 -- anchors and their train paths
 pub mod MapsOnTracks
 pub mod SwitchPlaces
@@ -53,4 +55,14 @@ pub mod AnchorTheory
 pub mod CarriedBy
 pub mod FoundAnchors
 pub mod RefusedAnchors
+pub mod AgreeingMiddles
 pub mod Agreeing
+-- anchors in the middle
+pub mod Pairs
+pub mod SwitchNumbers
+pub mod MiddleHeights
+pub mod FoundPlaces
+pub mod PickedPlaces
+pub mod MiddleSteps
+pub mod MiddleChosen
+pub mod MiddleGaps

@@ -8,7 +8,7 @@
 use Rattle.std.proofs.Common.{ℕ, ℤ, pos, negsuc, Bool, true, false, List, [], ◌∷◌, ◌≡◌, ◌<◌, ◌⊎◌}
 use Rattle.std.proofs.Common.{inl, inr, refl, sym, ◌∙◌, ap, subst, arith, map}
 use Rattle.std.specs.Prelude.{cond}
-use Rattle.std.specs.List.{Contains, filter, list_any, range_with_len}
+use Rattle.std.specs.List.{All, Contains, filter, list_any, range_with_len}
 use Rattle.std.specs.Ordering.{int_eq}
 use Rattle.std.proofs.lemmas.Bool.{or_cases, or_left, or_right, true≢false}
 use Rattle.std.proofs.lemmas.List.FromFn.{length-range_with_len, get_or-range_with_len}
@@ -42,7 +42,7 @@ from_any p (x ∷ xs) h = elim (or_cases (p x) (list_any p xs) h) [
 ]
 
 -- both labels of an edge are those of a switch, or neither
-switch_back : (ts : List (List ℤ)) (out : List ℤ) (labels : LabelLaws) (y : ℤ) → is_switch ts out (inverse y) ≡ true
+pub switch_back : (ts : List (List ℤ)) (out : List ℤ) (labels : LabelLaws) (y : ℤ) → is_switch ts out (inverse y) ≡ true
     → is_switch ts out y ≡ true
 unfolding is_switch
 switch_back ts out labels y h =
@@ -121,3 +121,10 @@ pub listed_at_switches : (ts : List (List ℤ)) (out : List ℤ) (labels : Label
 listed_at_switches ts out labels places h =
     filter_same (λ (p : Place). is_listed (switches_of ts out) p.label) (λ (p : Place). is_switch ts out p.label) places
     (λ p has. listed_is_switch ts out labels p.label (h p has))
+
+-- letters that are labels
+pub listed_letters : (ts : List (List ℤ)) (out : List ℤ) (labels : LabelLaws) (w : List ℤ) → All (IsLabel ts) w
+    → filter (is_listed (switches_of ts out)) w ≡ filter (is_switch ts out) w
+listed_letters ts out labels w are =
+    filter_same (is_listed (switches_of ts out)) (is_switch ts out) w
+    (λ x (k, less, e). listed_is_switch ts out labels x (subst (IsLabel ts) e (are k x less)))

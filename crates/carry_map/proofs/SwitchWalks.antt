@@ -18,7 +18,7 @@ use Rattle.train_track.specs.Branches.{IsBranch, letter_at}
 use Rattle.carry_map.specs.CarriedMaps.{Carrying, beside, goes_to, connection, final}
 use Rattle.carry_map.specs.AnchorAnswers.{train_path}
 use Rattle.carry_map.specs.AnchorLaws.{AreConnected}
-use Rattle.carry_map.specs.inside.Switches.{IsSwitchLabel}
+use Rattle.carry_map.specs.inside.Switches.{IsSwitchLabel, walk_from_to}
 use Rattle.carry_map.proofs.SwitchPlaces.{switch_forwards, switch_listed, first_at, beside_first}
 use Rattle.carry_map.proofs.WordEnds.{front_is}
 use Rattle.carry_map.proofs.WordParts.{last_of-append}
@@ -122,35 +122,51 @@ module _ (labels : LabelLaws) (ts : List (List ℤ)) (walks : WalkLaws ts) (out 
               (beside (pos 0) switches c.to (pos n) ∷ []) on.walk (on.label, refl, refl)));
         }
 
-    -- ---- the computed train path
+-- ---- the walk along the image of a branch, between where two carryings take its ends
 
-    pub path_walk : WalkMapLaws → IsTriangulation ts → (b : List ℤ) → IsBranch ts out b
-        → IsWalk ts (triangle_of ts (goes_to switches c (letter_at b 0))) (train_path switches f c b)
-        (triangle_of ts (inverse (goes_to switches c (final b))))
-    path_walk maps tri b is =
-        walks.reduced begin end _
-        (walks.join begin from end (inverse_word (connection f switches c (letter_at b 0))) _
-        (walks.back from begin (connection f switches c (letter_at b 0)) first.walk)
-        (walks.join from to end (flat_map f (but_last b)) _
-        (maps.walks ts ts f triangles (triangle_of ts (letter_at b 0)) (triangle_of ts (final b)) (but_last b) tri map
-        (front_walk ts out b is))
-        (walks.join to (triangle_of ts (goes_to switches c (final b))) end (connection f switches c (final b))
-        (goes_to switches c (final b) ∷ []) last.walk (last.label, refl, refl))))
-      where
-        begin : ℕ
-        begin = triangle_of ts (goes_to switches c (letter_at b 0))
+module _ (labels : LabelLaws) (ts : List (List ℤ)) (walks : WalkLaws ts) (out : List ℤ) (f : ℤ → List ℤ)
+    (triangles : ℕ → ℕ) (c d : Carrying) (map : IsMap ts ts f triangles) (here : AreConnected ts out triangles c)
+    (there : AreConnected ts out triangles d) where
+  abbrev listed : List ℤ
+  listed = switches_of ts out
 
-        end : ℕ
-        end = triangle_of ts (inverse (goes_to switches c (final b)))
+  pub walk_leads : WalkMapLaws → IsTriangulation ts → (b : List ℤ) → IsBranch ts out b
+      → IsWalk ts (triangle_of ts (goes_to (switches_of ts out) c (letter_at b 0)))
+      (walk_from_to (switches_of ts out) f c d b)
+      (triangle_of ts (inverse (goes_to (switches_of ts out) d (final b))))
+  walk_leads maps tri b is =
+      walks.reduced begin end _
+      (walks.join begin from end (inverse_word (connection f listed c (letter_at b 0))) _
+      (walks.back from begin (connection f listed c (letter_at b 0)) first.walk)
+      (walks.join from to end (flat_map f (but_last b)) _
+      (maps.walks ts ts f triangles (triangle_of ts (letter_at b 0)) (triangle_of ts (final b)) (but_last b) tri map
+      (front_walk ts out b is))
+      (walks.join to (triangle_of ts (goes_to listed d (final b))) end (connection f listed d (final b))
+      (goes_to listed d (final b) ∷ []) last.walk (last.label, refl, refl))))
+    where
+      begin : ℕ
+      begin = triangle_of ts (goes_to listed c (letter_at b 0))
 
-        from : ℕ
-        from = triangles (triangle_of ts (letter_at b 0))
+      end : ℕ
+      end = triangle_of ts (inverse (goes_to listed d (final b)))
 
-        to : ℕ
-        to = triangles (triangle_of ts (final b))
+      from : ℕ
+      from = triangles (triangle_of ts (letter_at b 0))
 
-        first : IsReached (letter_at b 0)
-        first = reached (letter_at b 0) (first_switch ts out b is)
+      to : ℕ
+      to = triangles (triangle_of ts (final b))
 
-        last : IsReached (final b)
-        last = reached (final b) (last_switch ts out b is)
+      first : IsReached labels ts walks out f triangles c map here (letter_at b 0)
+      first = reached labels ts walks out f triangles c map here (letter_at b 0) (first_switch ts out b is)
+
+      last : IsReached labels ts walks out f triangles d map there (final b)
+      last = reached labels ts walks out f triangles d map there (final b) (last_switch ts out b is)
+
+-- the computed train path
+pub path_walk : (labels : LabelLaws) (ts : List (List ℤ)) → WalkLaws ts → (out : List ℤ) (f : ℤ → List ℤ)
+    (triangles : ℕ → ℕ) (c : Carrying) → IsMap ts ts f triangles → AreConnected ts out triangles c → WalkMapLaws
+    → IsTriangulation ts → (b : List ℤ) → IsBranch ts out b
+    → IsWalk ts (triangle_of ts (goes_to (switches_of ts out) c (letter_at b 0)))
+    (train_path (switches_of ts out) f c b) (triangle_of ts (inverse (goes_to (switches_of ts out) c (final b))))
+path_walk labels ts walks out f triangles c map connected =
+    walk_leads labels ts walks out f triangles c c map connected connected

@@ -7,6 +7,7 @@ use Rattle.train_track.specs.Branches.{IsBranch, IsBranchList}
 use Rattle.carry_map.specs.Anchors.{Place, ArePlaces}
 use Rattle.carry_map.specs.AnchorAnswers.{AreAnchors, IsFirstWithout, train_path, FitsBy, walk_by}
 use Rattle.carry_map.specs.AnchorAnswers.{IsFirstUnfit}
+use Rattle.carry_map.specs.MiddleAnchors.{AreMiddleAnchors}
 use Rattle.carry_map.specs.AnchorLaws.{HavePaths}
 use Rattle.carry_map.specs.CarriedMaps.{Carrying, IsTrainPath, IsCarried}
 
@@ -44,6 +45,9 @@ pub record AgreementLaws (triples : List (List ℤ)) (left_out : List ℤ) (f g 
       → AreAnchors triples left_out g firsts
   pub without : (i : ℕ) → IsFirstWithout triples left_out f i
       → IsFirstWithout triples left_out g i
+  pub middles : (branches : List (List ℤ)) → IsBranchList triples left_out branches
+      → (anchors : List Place) → AreMiddleAnchors triples left_out branches f anchors
+      → AreMiddleAnchors triples left_out branches g anchors
   -- where the branches go
   pub path : (c : Carrying) (branch : List ℤ) → IsBranch triples left_out branch
       → train_path (switches_of triples left_out) f c branch

@@ -4,6 +4,7 @@ pub mod Iterates
 pub mod IterateLaws
 pub mod Anchors
 pub mod AnchorAnswers
+pub mod MiddleAnchors
 pub mod AnchorLaws
 pub mod AgreementLaws
 pub mod inside

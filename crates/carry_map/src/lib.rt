@@ -16,6 +16,11 @@
 //! and none where this isn't one. Each answer carries the track, and each refusal names the first
 //! test that fails.
 //!
+//! A second rule, `middle_anchor`, differs in the anchors alone: it takes places in the middle. The
+//! branches between switches ask for room between their anchors, as many places as the next switch
+//! still has behind it; the greatest heights that leave this room, from the first place on and from
+//! the last place back, have the anchor halfway between them.
+//!
 //! On the once-punctured torus, the twist a and then the twist b:
 //!
 //! ```text
@@ -25,29 +30,39 @@
 //! the places of 1   four letters 1, behind the walks -2 2 -2 and -2 and -1 and -1 1 -3
 //! its anchor        the first: 1 goes to 1, along -2 2 -2
 //! the train paths   1 -3 1 -1 1 and 1 -3 1 -1 1 -3 1
-//! the matrix        has the rows (1, 1) and (1, 2)
+//! the middle rule   heights 3 and 3, so its anchor is the place behind -2, and the train paths
+//!                   are 1 -1 1 -3 1 and 1 -1 1 -3 1 -3 1
+//! the matrix        has the rows (1, 1) and (1, 2), for both
 //! the walk 1 -1     passes (1, 0), and its images pass (1, 1), (2, 3), (5, 8), ..
 //! ```
 //!
 //! The definitions stand in `specs/`, to be read in this order: `CarriedMaps` (what carries a
 //! track), `Iterates` (passes of closed walks, images, the matrix); `IterateLaws` states what is
-//! proved of them. Then `Anchors` (lines and places) and `AnchorAnswers` (what `anchor` answers);
-//! `AnchorLaws` states that a branch has one train path at most, and `AgreementLaws` that only the
-//! images of labels count. `specs/inside` serves private functions and proofs alone.
+//! proved of them. Then `Anchors` (lines and places), `AnchorAnswers` (what `anchor` answers) and
+//! `MiddleAnchors` (what `middle_anchor` answers); `AnchorLaws` states that a branch has one train
+//! path at most, and `AgreementLaws` that only the images of labels count. `specs/inside` serves
+//! private functions and proofs alone.
 #![tactic(auto)]
 
 mod anchors;
 mod carry;
+mod heights;
 mod laws;
+mod middle;
 mod paths;
+mod picked;
 mod places;
 mod rays;
+mod steps;
 mod windows;
 
 pub use anchors::anchor;
 pub use carry::{AnchorError, CarryMap};
 pub use laws::{agreement_laws, anchor_laws, iterate_laws};
+pub use middle::middle_anchor;
 
+#[cfg(test)]
+mod middle_tests;
 #[cfg(test)]
 mod places_tests;
 #[cfg(test)]

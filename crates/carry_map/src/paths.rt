@@ -7,13 +7,14 @@ ghost use Rattle.ideal_tri.specs.Triangulations.{IsWalk, triangle_of};
 ghost use Rattle.tri_atlas.specs.Arena.{triangulation};
 ghost use Rattle.free_groupoid.specs.Walks.{IsWalkOn};
 ghost use Rattle.free_groupoid.specs.GroupoidMaps.{substitution, vertex_image, reduced_image};
-ghost use Rattle.train_track.specs.Tracks.{is_switch};
+ghost use Rattle.train_track.specs.Tracks.{is_switch, switches_of};
 ghost use Rattle.train_track.specs.Branches.{IsBranch, IsTrackIn, letter_at};
 ghost use Rattle.carry_map.specs.CarriedMaps.{goes_to, connection, final};
 ghost use Rattle.carry_map.specs.AnchorAnswers.{IsMapOnTrack, Fits, carrying_by, walk_by, walks_by};
-ghost use Rattle.carry_map.specs.AnchorAnswers.{AllFitBy, IsRefusedBy, path_by};
+ghost use Rattle.carry_map.specs.AnchorAnswers.{AllFitBy, IsRefusedBy};
 ghost use Rattle.carry_map.specs.AnchorLaws.{AreConnected};
 ghost use Rattle.carry_map.specs.inside.Switches.{IsFirstAt, IsSwitchLabel, IsSwitchOf, IsFrontOf};
+ghost use Rattle.carry_map.specs.inside.Switches.{walk_from_to};
 
 use crate::carry::AnchorError;
 use crate::laws::anchor_laws;
@@ -76,38 +77,42 @@ fn train_path(
     label_laws();
     surface_laws();
     map_laws();
-    let letters = path_letters(alloc, atlas, track, psi, anchors, branch)?;
+    let letters = path_letters(alloc, atlas, track, psi, anchors, anchors, branch)?;
     let begins = goes_to(track, anchors, first_letter(branch));
     let start = atlas.tri(track.tri()).place(begins).0;
     Ok(Walk { start, letters })
 }
 
-/// Its letters: back along the walk of the first switch of the branch, along the image of the
-/// branch without its last letter, along the walk of its last switch, and across the label that
-/// this switch goes to; reduced.
-fn path_letters(
+/// The walk back along the walk of the first switch of the branch to where `from` has it go, along
+/// the image of the branch without its last letter, along the walk of its last switch to where `to`
+/// has it go, and across the label that this switch goes to; reduced.
+pub(crate) fn path_letters(
     alloc: Global,
     atlas: &Atlas,
     track: &Track,
     psi: &Map,
-    anchors: &[Place],
+    from: &[Place],
+    to: &[Place],
     branch: &Walk,
 ) -> Result<Vec<Label>, Memory>
     requires map { IsMapOnTrack atlas.now track.now psi.now }
-    requires as_many { length anchors.now ≡ length track.now.switches }
+    requires from_each { length from.now ≡ length track.now.switches }
+    requires to_each { length to.now ≡ length track.now.switches }
     requires branch { IsBranch (triangulation atlas.now track.now.tri) track.now.left_out
         branch.now.letters }
-    ensures { IfOk result (λ v. v.items ≡ path_by (triangulation atlas.now track.now.tri)
-        track.now.left_out (substitution psi.now.images) anchors.now branch.now.letters) }
+    ensures { IfOk result (λ v. v.items ≡ walk_from_to
+        (switches_of (triangulation atlas.now track.now.tri) track.now.left_out)
+        (substitution psi.now.images) (carrying_by from.now) (carrying_by to.now)
+        branch.now.letters) }
 {
     word_laws();
     let last = last_letter(branch);
     let mut letters = Vec::new(alloc);
-    let back = connection(alloc, atlas, track, psi, anchors, first_letter(branch))?;
+    let back = connection(alloc, atlas, track, psi, from, first_letter(branch))?;
     push_inverse(&back, &mut letters)?;
     letters.extend_from_slice(&image(alloc, atlas, track, psi, before_last(branch))?)?;
-    letters.extend_from_slice(&connection(alloc, atlas, track, psi, anchors, last)?)?;
-    letters.push(goes_to(track, anchors, last))?;
+    letters.extend_from_slice(&connection(alloc, atlas, track, psi, to, last)?)?;
+    letters.push(goes_to(track, to, last))?;
     Ok(reduced(letters))
 }
 
@@ -201,7 +206,7 @@ fn has_ends(path: &Walk, begins: Label, ends: Label) -> bool
 }
 
 /// The first letter of a branch.
-fn first_letter(branch: &Walk) -> Label
+pub(crate) fn first_letter(branch: &Walk) -> Label
     requires { branch.now.letters ≢ [] }
     ensures letter { result ≡ letter_at branch.now.letters 0 }
     ensures switch { IsSwitchOf branch.now.letters result }
@@ -210,7 +215,7 @@ fn first_letter(branch: &Walk) -> Label
 }
 
 /// The last letter of a branch.
-fn last_letter(branch: &Walk) -> Label
+pub(crate) fn last_letter(branch: &Walk) -> Label
     requires { branch.now.letters ≢ [] }
     ensures letter { result ≡ final branch.now.letters }
     ensures switch { IsSwitchOf branch.now.letters result }
@@ -239,7 +244,7 @@ fn goes_to(track: &Track, anchors: &[Place], x: Label) -> Label
 }
 
 /// The place of a switch, given by its label that isn't negative.
-fn place_of(switches: &[Label], s: Label) -> usize
+pub(crate) fn place_of(switches: &[Label], s: Label) -> usize
     requires { Contains switches.now s }
     ensures { IsFirstAt switches.now s result }
 {
@@ -252,7 +257,7 @@ fn place_of(switches: &[Label], s: Label) -> usize
 }
 
 /// The label of the edge that isn't negative.
-fn forwards(x: Label) -> Label
+pub(crate) fn forwards(x: Label) -> Label
     ensures { result ≡ pos (edge_of x) }
 {
     x.with_sign_of(x)

@@ -34,11 +34,11 @@ impl Model for Place {
     ghost view = { λ a. record { connect = a.connect.items; label = a.label } };
 }
 
-/// The first places of a switch, so many at most, in their order on the lines. A line runs from the end of the image of a
-/// legal walk of three letters back from the switch to the end of that of a legal walk of three
-/// letters on from it. So the places lie back along what all the former images have in common, and
-/// then on along what the latter have, past what one of the former has in common with one of the
-/// latter.
+/// The first places of a switch, so many at most, in their order on the lines. A line runs from the
+/// end of the image of a legal walk of three letters back from the switch to the end of that of a
+/// legal walk of three letters on from it. So the places lie back along what all the former images
+/// have in common, and then on along what the latter have, past what one of the former has in common
+/// with one of the latter.
 pub(crate) fn places(
     alloc: Global,
     atlas: &Atlas,
@@ -192,7 +192,7 @@ fn push_place(
 
 /// Whether a label or its inverse is one of these.
 #[tactic(auto, unfolding(crate::specs::inside::Rays::is_listed))]
-fn is_listed(labels: &[Label], y: Label) -> bool
+pub(crate) fn is_listed(labels: &[Label], y: Label) -> bool
     ensures { result ≡ is_listed labels.now y }
 {
     labels.contains(&y) || labels.contains(&y.inverse())

@@ -51,6 +51,17 @@ pub(crate) fn one_twist(rt: &impl Abort, alloc: Global, atlas: &mut Atlas) -> Re
     map_of(alloc, atlas, &path)
 }
 
+/// The map of the twist b.
+pub(crate) fn other_twist(rt: &impl Abort, alloc: Global, atlas: &mut Atlas) -> Result<Map, Fail>
+    ensures map { IfOk result (IsMapIn atlas.new) }
+    ensures source { IfOk result (λ m. m.source ≡ 0) }
+    ensures target { IfOk result (λ m. m.target ≡ 0) }
+{
+    let mut path = Path::new(alloc, atlas.base());
+    push_twist(rt, atlas, &mut path, &[-2, -1, 2])?;
+    map_of(alloc, atlas, &path)
+}
+
 /// The map that turns the triangles.
 pub(crate) fn turn(alloc: Global, atlas: &mut Atlas) -> Result<Map, Fail>
     ensures map { IfOk result (IsMapIn atlas.new) }

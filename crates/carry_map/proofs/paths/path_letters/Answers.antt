@@ -1,7 +1,8 @@
 use Rattle.std.proofs.Common.{ℤ, List, ◌∙◌, ◌++◌, ap}
 use Rattle.ideal_tri.specs.Words.{inverse_word}
 use Rattle.free_groupoid.specs.GroupoidMaps.{substitution, reduced_image}
-use Rattle.carry_map.specs.AnchorAnswers.{train_path, carrying_by}
+use Rattle.carry_map.specs.AnchorAnswers.{carrying_by}
+use Rattle.carry_map.specs.inside.Switches.{walk_from_to}
 use Rattle.carry_map.proofs.Gathering.{gathered}
 use Rattle.carry_map.proofs.paths.path_letters.Goals as goal
 
@@ -16,7 +17,8 @@ pub returns : goal.returns
 returns c =
     let f : ℤ → List ℤ = substitution c.args.psi.now.images in
     c.reduced.ensures
-    ∙ gathered c.word_laws.ensures c.args.track.now.switches f (carrying_by c.args.anchors.now)
+    ∙ gathered c.word_laws.ensures c.args.track.now.switches f (carrying_by c.args.from.now)
+    (carrying_by c.args.to.now)
     c.args.branch.now.letters _ _ _ _ _ _ _ c.first_letter.result c.last_letter-last.result c.goes_to.result
     (c.in_ok-push_inverse.ensures ∙ ap (λ (w : List ℤ). w ++ inverse_word c.deref.result.now)
     c.new-letters.ensures.items)
@@ -26,5 +28,6 @@ returns c =
     (c.deref-2.ensures.value ∙ c.in_ok-image.ensures ∙ ap (reduced_image f) c.before_last.ensures.letters)
     (c.deref-3.ensures.value ∙ c.in_ok-connection.ensures)
     c.goes_to.ensures
-    ∙ ap (λ (switches : List ℤ). train_path switches f (carrying_by c.args.anchors.now) c.args.branch.now.letters)
+    ∙ ap (λ (switches : List ℤ). walk_from_to switches f (carrying_by c.args.from.now) (carrying_by c.args.to.now)
+    c.args.branch.now.letters)
     c.requires.map.here.on.switches
