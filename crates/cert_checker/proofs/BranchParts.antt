@@ -21,7 +21,7 @@ taken_front (x ∷ w) =
     taken x [] = refl
     taken x (y ∷ w) = ap (λ (u : List ℤ). x ∷ u) (taken y w)
 
-last_of-ended : (x : ℤ) (u : List ℤ) (z : ℤ) → last_of x (u ++ (z ∷ [])) ≡ z
+pub last_of-ended : (x : ℤ) (u : List ℤ) (z : ℤ) → last_of x (u ++ (z ∷ [])) ≡ z
 last_of-ended x [] z = refl
 last_of-ended x (y ∷ u) z = last_of-ended y u z
 

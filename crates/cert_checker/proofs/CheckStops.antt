@@ -6,12 +6,6 @@ use Rattle.cert_checker.specs.declared.verdict.Stop.{Stop}
 use Rattle.cert_checker.specs.declared.verdict.Stop.TheVariants.{Refused, Memory}
 use Rattle.cert_checker.specs.inside.Stops.{IsStop}
 
--- a failure is one in other words
-pub stop_as : (F G : ℕ → ℕ → Type 0) → ((rule place : ℕ) → F rule place → G rule place) → (stop : Stop)
-    → IsStop F stop → IsStop G stop
-stop_as F G there (Refused rule place) fails = there rule place fails
-stop_as F G there Memory fails = tt
-
 module _ {T : Type 0} (F : ℕ → ℕ → Type 0) (r : Result T Stop) where
   pub handed_on : (stop : Stop) → IsErrAnd r (λ e. e ≡ stop) → IsStop F stop → IfErr r (IsStop F)
   handed_on stop ends fails =

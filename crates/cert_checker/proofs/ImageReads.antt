@@ -10,13 +10,11 @@ use Rattle.cert_text.specs.PseudoAnosov.{carrying_of}
 use Rattle.cert_text.specs.declared.carried_track.Pa.{Pa}
 use Rattle.cert_checker.specs.inside.TrackParts.{IsImageOf}
 use Rattle.cert_checker.proofs.AnchorReads.{as_many}
+use Rattle.cert_checker.proofs.WalkReading.{walk_count}
 
 pub branch_count : (found branches : List DualWalk) → found ≡ branches → length found ≡ length (words_of branches)
 branch_count found branches listed =
     ap (λ (ws : List DualWalk). length ws) listed ∙ sym (length-map branches (λ (w : DualWalk). w.letters))
-
-pub image_count : (images : List (Vec ℤ Global)) → length (walks_of images) ≡ length images
-image_count images = length-map images (λ (u : Vec ℤ Global). u.items)
 
 module _ (ts : List (List ℤ)) (track : TrainTrack) (c : Pa) (found : List DualWalk) (n k : ℕ)
     (listed : found ≡ track.branches) (long : k ≡ length c.images.items) (count : n ≡ min k (length found)) where
@@ -24,7 +22,7 @@ module _ (ts : List (List ℤ)) (track : TrainTrack) (c : Pa) (found : List Dual
   pub tests : n ≡ min (length (walks_of c.images.items)) (length (words_of track.branches))
   tests =
       as_many n k (length found) (length (walks_of c.images.items)) (length (words_of track.branches)) count
-      (image_count c.images.items ∙ sym long) (branch_count found track.branches listed)
+      (walk_count c.images.items ∙ sym long) (branch_count found track.branches listed)
 
   module _ (j : ℕ) (w : DualWalk) (u : Vec ℤ Global) (b v : List ℤ) (less : j < n) (w_is : w ≡ get_or found j w)
       (b_is : b ≡ w.letters) where

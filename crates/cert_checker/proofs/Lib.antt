@@ -27,7 +27,6 @@ pub mod MovedReasons
 pub mod NeverInner
 pub mod NextRow
 pub mod PassedRows
-pub mod Passing
 pub mod PeriodicExclusion
 pub mod PeriodicRuleParts
 pub mod PowerMaps

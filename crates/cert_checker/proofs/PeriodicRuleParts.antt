@@ -15,7 +15,7 @@ use Rattle.cert_checker.specs.PeriodicRules.{IsTurned}
 use Rattle.cert_checker.specs.declared.verdict.Stop.{Stop}
 use Rattle.cert_checker.specs.inside.PeriodicParts.{IsPower, IsFirstFailingFromOne}
 use Rattle.cert_checker.specs.inside.Stops.{IsStop, IsRule}
-use Rattle.cert_checker.proofs.CheckStops.{stop_as}
+use Rattle.cert_checker.proofs.Stopped.{stopped}
 use Rattle.cert_checker.proofs.PowerMaps.{map_of_moves, first_equation, inner_by}
 
 module _ (arena : Arena) (moves : List Move) (order : ℕ) (paths reasons : List (List ℤ))
@@ -30,7 +30,7 @@ module _ (arena : Arena) (moves : List Move) (order : ℕ) (paths reasons : List
       → IsStop (IsRule 4 (IsFirstFailingFromOne (length reasons) (IsReason base reasons))) stop
       → IsStop Fails stop
   at_reason =
-      stop_as (IsRule 4 (IsFirstFailingFromOne (length reasons) (IsReason base reasons))) Fails
+      stopped (IsRule 4 (IsFirstFailingFromOne (length reasons) (IsReason base reasons))) Fails
       (λ rule place (is, (i, at, first)). by_reason i is at counted first)
 
   module _ (loops : AllPass (length reasons) (IsReason base reasons)) where
@@ -38,7 +38,7 @@ module _ (arena : Arena) (moves : List Move) (order : ℕ) (paths reasons : List
         → IsStop (IsRule 5 (IsFirstFailingFromOne order (IsTurnWithin base moves))) stop
         → IsStop Fails stop
     at_cap =
-        stop_as (IsRule 5 (IsFirstFailingFromOne order (IsTurnWithin base moves))) Fails
+        stopped (IsRule 5 (IsFirstFailingFromOne order (IsTurnWithin base moves))) Fails
         (λ rule place (is, (i, at, first)). by_cap i is at counted loops first)
 
     module _ (maps : MapLaws) (f : GroupoidMap) (power : IsPower arena moves order f) where
@@ -54,7 +54,7 @@ module _ (arena : Arena) (moves : List Move) (order : ℕ) (paths reasons : List
           → IsStop (IsRule 6 (IsFirstFailing (length base) (IsPathFrom base (vertex_image f) paths))) stop
           → IsStop Fails stop
       at_path =
-          stop_as (IsRule 6 (IsFirstFailing (length base) (IsPathFrom base (vertex_image f) paths))) Fails
+          stopped (IsRule 6 (IsFirstFailing (length base) (IsPathFrom base (vertex_image f) paths))) Fails
           (λ rule place (is, first). by_path (vertex_image f) is turned first)
 
       module _ (walks : AllPass (length base) (IsPathFrom base (vertex_image f) paths)) where
@@ -65,7 +65,7 @@ module _ (arena : Arena) (moves : List Move) (order : ℕ) (paths reasons : List
             → IsStop (IsRule 7 (IsFirstFailing (edge_count base) HoldsAt)) stop
             → IsStop Fails stop
         at_equation =
-            stop_as (IsRule 7 (IsFirstFailing (edge_count base) HoldsAt)) Fails
+            stopped (IsRule 7 (IsFirstFailing (edge_count base) HoldsAt)) Fails
             (λ rule place (is, first). by_equation (vertex_image f) is turned walks
             (first_equation maps arena moves order f power paths place first))
 
@@ -74,7 +74,7 @@ module _ (arena : Arena) (moves : List Move) (order : ℕ) (paths reasons : List
               → IsStop (IsRule 8 (IsFirstFailingFromOne (length reasons) (IsMoved base moves reasons))) stop
               → IsStop Fails stop
           at_kept =
-              stop_as (IsRule 8 (IsFirstFailingFromOne (length reasons) (IsMoved base moves reasons))) Fails
+              stopped (IsRule 8 (IsFirstFailingFromOne (length reasons) (IsMoved base moves reasons))) Fails
               (λ rule place (is, (i, at, first)). by_kept (vertex_image f) i is at turned
               (inner_by maps arena moves order f power paths reduction counted.one_path_each walks equations) first)
 

@@ -16,7 +16,7 @@ use Rattle.train_track.specs.Tracks.{is_fork, is_switch, switches_of}
 
 -- ---- both labels of an edge are those of a switch, or neither
 
-or_turned : (a b : Bool) → (a || b) ≡ (b || a)
+pub or_turned : (a b : Bool) → (a || b) ≡ (b || a)
 or_turned true true = refl
 or_turned true false = refl
 or_turned false true = refl

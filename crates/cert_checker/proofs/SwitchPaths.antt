@@ -21,12 +21,10 @@ use Rattle.cert_text.specs.Certificates.{CarriedTrack}
 use Rattle.cert_text.specs.PseudoAnosov.{carrying_of}
 use Rattle.cert_checker.specs.inside.Columns.{IsPassedWalk}
 use Rattle.cert_checker.specs.inside.TrackParts.{CanBePassed}
+use Rattle.cert_checker.proofs.BranchParts.{last_of-ended}
+use Rattle.cert_checker.proofs.SwitchLabels.{or_turned}
 
 -- ---- the ends of a branch
-
-last_of-end : (x : ℤ) (w : List ℤ) (z : ℤ) → last_of x (w ++ (z ∷ [])) ≡ z
-last_of-end x [] z = refl
-last_of-end x (y ∷ w) z = last_of-end y w z
 
 last_label : (ts : List (List ℤ)) (s t : ℕ) (w : List ℤ) (z : ℤ) → IsWalk ts s (w ++ (z ∷ [])) t → IsLabel ts z
 last_label ts s t [] z walk = walk.0
@@ -51,7 +49,7 @@ module _ (ts : List (List ℤ)) (out : List ℤ) (b : List ℤ) (is : IsBranch t
 
   ends_at : IsSwitchLabel ts out (final b)
   ends_at =
-      subst (IsSwitchLabel ts out) (sym (ap final is.letters ∙ last_of-end is.first is.between is.last))
+      subst (IsSwitchLabel ts out) (sym (ap final is.letters ∙ last_of-ended is.first is.between is.last))
       (record {
         label = last_label ts (triangle_of ts is.first) (triangle_of ts (inverse is.last)) (is.first ∷ is.between)
             is.last walk_is;
@@ -59,12 +57,6 @@ module _ (ts : List (List ℤ)) (out : List ℤ) (b : List ℤ) (is : IsBranch t
       })
 
 -- ---- where the label of a switch goes
-
-or_turned : (a b : Bool) → (a || b) ≡ (b || a)
-or_turned true true = refl
-or_turned true false = refl
-or_turned false true = refl
-or_turned false false = refl
 
 switch_inverse : (ts : List (List ℤ)) (out : List ℤ) (x : ℤ) → is_switch ts out (inverse x) ≡ is_switch ts out x
 unfolding is_switch

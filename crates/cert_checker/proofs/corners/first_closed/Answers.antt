@@ -1,6 +1,6 @@
 use Rattle.std.proofs.Common.{refl}
 use Rattle.cert_checker.specs.TrackRules.{IsOpenAt}
-use Rattle.cert_checker.proofs.Passing.{pass_more}
+use Rattle.cert_checker.proofs.ListsTogether.{pass_more}
 use Rattle.cert_checker.proofs.corners.first_closed.Goals as goal
 
 pub loop-v-preserved : goal.loop-v-preserved

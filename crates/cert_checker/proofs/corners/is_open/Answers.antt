@@ -4,7 +4,7 @@ use Rattle.std.proofs.lemmas.List.{get_or_default}
 use Rattle.ideal_tri.specs.Vertices.{vertex_of}
 use Rattle.train_track.specs.Branches.{letter_at}
 use Rattle.cert_checker.proofs.FillingCorners.{open_at, never_open}
-use Rattle.cert_checker.proofs.Passing.{pass_more}
+use Rattle.cert_checker.proofs.ListsTogether.{pass_more}
 use Rattle.cert_checker.proofs.corners.is_open.Goals as goal
 
 pub returns-then-number-v : goal.returns-then-number-v

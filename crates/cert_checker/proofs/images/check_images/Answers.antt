@@ -9,7 +9,8 @@ use Rattle.cert_text.specs.PseudoAnosov.{letters_of_words}
 use Rattle.cert_checker.specs.FirstFailing.{AllPass}
 use Rattle.cert_checker.specs.TrackRefusals.{by_letters}
 use Rattle.cert_checker.specs.inside.TrackParts.{IsImageOf}
-use Rattle.cert_checker.proofs.ImageReads.{branch_count, image_count}
+use Rattle.cert_checker.proofs.ImageReads.{branch_count}
+use Rattle.cert_checker.proofs.WalkReading.{walk_count}
 use Rattle.cert_checker.proofs.ListsTogether.{few, fewer_pass, many, when_none}
 use Rattle.cert_checker.proofs.images.check_images.Goals as goal
 
@@ -24,7 +25,7 @@ returns-then-letters_in-gt-LETTER_CAP-clause-refused c =
     let count : length c.branches.result.now ≡ length branches =
     branch_count c.branches.result.now c.args.site.now.track.branches c.branches.ensures in
     let same : length (walks_of images) ≡ length branches =
-    image_count images ∙ sym long ∙ c.if-given-wanted.false ∙ count in (
+    walk_count images ∙ sym long ∙ c.if-given-wanted.false ∙ count in (
       refl,
       by_letters count
           (fewer_pass Passes (length branches) (min (length (walks_of images)) (length branches))
@@ -46,7 +47,7 @@ returns-clause-held c =
     c.args.site.now.track.left_out (substitution c.args.site.now.map.images) (track_seen c.args.c.now) branches in
     let long : c.len-given.result ≡ length images = search rules in
     let same : length (walks_of images) ≡ length branches =
-    image_count images ∙ sym long ∙ c.if-given-wanted.false
+    walk_count images ∙ sym long ∙ c.if-given-wanted.false
     ∙ branch_count c.branches.result.now c.args.site.now.track.branches c.branches.ensures in
     record {
       one_each = same;
