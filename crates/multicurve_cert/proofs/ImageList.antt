@@ -11,7 +11,8 @@ use Rattle.tri_atlas.specs.MovedVectors.{vector_along, OverflowsAt}
 use Rattle.edge_coords.specs.Coordinates.{Coordinates, AreSmall}
 use Rattle.edge_coords.specs.declared.coords.TheConstants.{COORDINATE_LIMIT}
 use Rattle.multicurve_cert.specs.Candidates.{HasSmallImage, image_number}
-use Rattle.multicurve_cert.specs.inside.Images.{AreAtBase, AreImages, AreImagesOf, IsImageNumber}
+use Rattle.multicurve_cert.specs.LastTests.{AreAtBase}
+use Rattle.multicurve_cert.specs.inside.Images.{AreImages, AreImagesOf, IsImageNumber}
 use Rattle.multicurve_cert.specs.Candidates.{Overflows}
 use Rattle.multicurve_cert.specs.inside.Images.{coords_at, first_of}
 use Rattle.multicurve_cert.specs.PowerLaws.{PowerLaws}

@@ -10,7 +10,7 @@ use Rattle.multicurve_cert.specs.Candidates.{candidate, needed, put_together, Is
 use Rattle.multicurve_cert.specs.inside.Images.{AreImages, first_of}
 use Rattle.multicurve_cert.specs.Candidates.{Overflows}
 use Rattle.multicurve_cert.specs.PowerLaws.{PowerLaws}
-use Rattle.multicurve_cert.specs.inside.Tested.{IsLastLine}
+use Rattle.multicurve_cert.specs.LastTests.{IsLastLine}
 use Rattle.multicurve_cert.proofs.ImageList.{first_curve, first_small}
 
 -- a candidate that passes the first two tests fails one of the others first

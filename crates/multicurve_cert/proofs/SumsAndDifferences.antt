@@ -12,7 +12,8 @@ use Rattle.edge_coords.specs.declared.coords.TheConstants.{COORDINATE_LIMIT}
 use Rattle.edge_coords.specs.declared.moves.Overflow.{Overflow}
 use Rattle.multicurve_cert.specs.Candidates.{image_number, is_sum, lower, needed, put_together, sum_to, upper}
 use Rattle.multicurve_cert.specs.Candidates.{IsTooLarge, IsNoMulticurve}
-use Rattle.multicurve_cert.specs.inside.Images.{AreAtBase, IsImageNumber}
+use Rattle.multicurve_cert.specs.LastTests.{AreAtBase}
+use Rattle.multicurve_cert.specs.inside.Images.{IsImageNumber}
 use Rattle.multicurve_cert.specs.inside.Tested.{IsPutTogether}
 use Rattle.multicurve_cert.proofs.ImageList.{base_curve}
 

@@ -1,16 +1,13 @@
 //! One candidate: how it is made of the images of a cycle, and its tests.
-ghost use Rattle.std.specs.Prelude.{◌≡◌, ◌≤◌, ◌<◌, true, false, length, IfOk, IfErr, OnOk, IsTrue};
-ghost use Rattle.std.specs.Prelude.{◌↔◌};
-ghost use Rattle.ideal_tri.specs.PeripheralParts.{stripped};
+ghost use Rattle.std.specs.Prelude.{◌≡◌, ◌≤◌, ◌<◌, true, false, length, IfOk, IfErr, OnOk};
 ghost use Rattle.tri_atlas.specs.Arena.{triangulation};
 ghost use Rattle.tri_atlas.specs.Paths.{IsPathIn, moves_of};
-ghost use Rattle.multicurve_cert.specs.Candidates.{kinds, is_sum, lower, upper, needed, IsNothing};
-ghost use Rattle.multicurve_cert.specs.Candidates.{IsLineOf};
-ghost use Rattle.multicurve_cert.specs.inside.Images.{AreAtBase, AreImages, AreImagesOf, first_of};
-ghost use Rattle.multicurve_cert.specs.inside.Tested.{IsPutTogether, PassesLast, IsLastLine};
-ghost use Rattle.multicurve_cert.specs.inside.Tested.{IsStripped, IsPassing};
+ghost use Rattle.multicurve_cert.specs.Candidates.{kinds, is_sum, lower, upper, needed, IsLineOf};
+ghost use Rattle.multicurve_cert.specs.inside.Images.{AreImages, AreImagesOf, first_of};
+ghost use Rattle.multicurve_cert.specs.inside.Tested.{IsPassing, IsPutTogether};
 
 use crate::images::Images;
+use crate::last_tests::test_fixed;
 use crate::power_law::power_laws;
 use edge_coords::{Coords, CurveLine};
 use ideal_tri::Memory;
@@ -65,7 +62,7 @@ fn outcome(atlas: &Atlas, word: &Path, list: &[Coords], kind: u32) -> Result<Coo
         (moves_of atlas.now word.now) (first_of list.now) kind) }
 {
     match put_together(atlas, word, list, kind) {
-        Ok(made) => tested(atlas, word, made),
+        Ok(made) => test_fixed(atlas, word, made),
         Err(line) => Err(line),
     }
 }
@@ -166,42 +163,4 @@ fn difference(atlas: &Atlas, word: &Path, list: &[Coords], kind: u32) -> Result<
         Ok(()) => Ok(rest),
         Err(_) => Err(CurveLine::NotMulticurve),
     }
-}
-
-/// Takes the curves round vertices off and makes the tests that are left.
-fn tested(atlas: &Atlas, word: &Path, made: Coords) -> Result<Coords, CurveLine>
-    requires path { IsPathIn atlas.now word.now }
-    requires start { word.now.start ≡ 0 }
-    requires end { word.now.end ≡ 0 }
-    requires here { AreAtBase atlas.now made }
-    ensures numbers { IfOk result (λ c. c.numbers
-        ≡ stripped (triangulation atlas.now 0) made.numbers) }
-    ensures stripped { IfOk result (IsStripped atlas.now) }
-    ensures passes { OnOk result (PassesLast (triangulation atlas.now 0)
-        (moves_of atlas.now word.now) (stripped (triangulation atlas.now 0) made.numbers)) }
-    ensures line { IfErr result (IsLastLine (triangulation atlas.now 0)
-        (moves_of atlas.now word.now) (stripped (triangulation atlas.now 0) made.numbers)) }
-{
-    power_laws(atlas, word);
-    let mut rest = made;
-    rest.strip_peripheral(atlas);
-    if is_nothing(&rest) {
-        return Err(CurveLine::Empty);
-    }
-    let mut image = rest;
-    match image.follow(atlas, word) {
-        Ok(()) => {}
-        Err(_) => return Err(CurveLine::Overflow),
-    }
-    if image.values() != rest.values() {
-        return Err(CurveLine::Moved);
-    }
-    Ok(rest)
-}
-
-/// Whether all numbers are 0.
-fn is_nothing(c: &Coords) -> bool
-    ensures { IsTrue result ↔ IsNothing c.now.numbers }
-{
-    c.values().iter().all(|n| *n == 0)
 }

@@ -5,7 +5,7 @@ ghost use Rattle.tri_atlas.specs.Paths.{IsPathIn, moves_of};
 ghost use Rattle.multicurve_cert.specs.Candidates.{kinds};
 ghost use Rattle.multicurve_cert.specs.CurveAnswers.{IsCurvesAnswer, IsFoundIn};
 ghost use Rattle.multicurve_cert.specs.Cycles.{IsCycle, cycle_vector};
-ghost use Rattle.multicurve_cert.specs.inside.Images.{AreAtBase};
+ghost use Rattle.multicurve_cert.specs.LastTests.{AreAtBase};
 ghost use Rattle.multicurve_cert.specs.inside.Among.{AreKept, IsAnswerAmong};
 
 use crate::candidates::candidate;

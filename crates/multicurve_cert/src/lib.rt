@@ -8,9 +8,11 @@
 //! that passes all tests; that it is a multicurve below 2^126 with a free corner at each vertex; and
 //! that `None` has a line for each candidate, the first test that it fails. `cycles` gives exactly the
 //! cycles, in their order, and `cycle_coords` how often one crosses each edge: a multicurve.
+//! `test_fixed` makes the last tests of a candidate that was made in another way.
 //!
-//! The definitions stand in `specs/`: `Cycles`, `Candidates` (how they are made, and their tests) and
-//! `CurveAnswers`; what holds of the images of multicurves under powers in `PowerLaws`. `specs/inside` serves private functions alone.
+//! The definitions stand in `specs/`: `Cycles`, `Candidates` (how they are made, and their tests),
+//! `LastTests` and `CurveAnswers`; what holds of the images of multicurves under powers in
+//! `PowerLaws`. `specs/inside` serves private functions alone.
 //!
 //! ```text
 //! match search(alloc, &atlas, &path, 256)? {
@@ -27,6 +29,7 @@ mod cycle_list;
 mod cycle_test;
 mod cycle_vectors;
 mod images;
+mod last_tests;
 mod least_words;
 mod power_law;
 #[cfg(test)]
@@ -37,4 +40,5 @@ mod tests;
 pub use curve_search::{Curves, search};
 pub use cycle_list::cycles;
 pub use cycle_vectors::cycle_coords;
+pub use last_tests::test_fixed;
 pub use power_law::power_laws;

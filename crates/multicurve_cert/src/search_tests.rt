@@ -4,7 +4,7 @@ ghost use Rattle.std.specs.Prelude.{◌≡◌, ◌<◌, All, IfOk, OnOk};
 ghost use Rattle.multicurve_cert.specs.Candidates.{kinds};
 ghost use Rattle.tri_atlas.specs.Arena.{Grows};
 ghost use Rattle.tri_atlas.specs.Paths.{IsPathIn};
-ghost use Rattle.multicurve_cert.specs.inside.Images.{AreAtBase};
+ghost use Rattle.multicurve_cert.specs.LastTests.{AreAtBase};
 
 use crate::candidates::candidate;
 use crate::curve_search::{Curves, search_among};

@@ -1,7 +1,8 @@
--- What the anchor rule answers of the map of a path, told of the path.
+-- What an anchor rule answers of the map of a path, told of the path.
 --
 -- The map that is kept and the substitution of the path agree on the labels of the triangulation. So the places of the
--- switches, the train paths and the tests of these are the same for both, and what is said of the one holds of the other.
+-- switches, those that either rule chooses, the train paths and the tests of these are the same for both, and what is
+-- said of the one holds of the other.
 use Rattle.std.proofs.Common.{◌≡◌, ◌<◌, ◌≤◌, ℕ, ℤ, pos, List, [], length, map, sym, ◌∙◌, ap, subst}
 use Rattle.std.proofs.Common.{get_or, refl}
 use Rattle.std.specs.List.{All, range_with_len}
@@ -19,7 +20,7 @@ use Rattle.free_groupoid.specs.Walks.{DualWalk, IsWalkOn}
 use Rattle.train_track.specs.Branches.{TrainTrack, IsTrackOn, words_of, letter_at}
 use Rattle.train_track.specs.Tracks.{is_switch, switches_of}
 use Rattle.carry_map.specs.AgreementLaws.{AgreeOn, AgreementLaws, AllAgreementLaws, BranchAgreement}
-use Rattle.carry_map.specs.AnchorAnswers.{AllFitBy, AreAnchors, IsAnchorAnswer, IsRefusedFor, PassesCap}
+use Rattle.carry_map.specs.AnchorAnswers.{AllFitBy, IsAnswerBy, PassesCap}
 use Rattle.carry_map.specs.AnchorAnswers.{letters_together, walk_by, walks_by}
 use Rattle.carry_map.specs.Anchors.{Place}
 use Rattle.carry_map.specs.CarriedMaps.{IsCarried}
@@ -27,8 +28,10 @@ use Rattle.carry_map.specs.CarryingWalks.{CarryingWalks, carrying_of}
 use Rattle.carry_map.specs.declared.carry.AnchorError.TheVariants as refused
 use Rattle.cert_text.specs.Limits.{letter_cap}
 use Rattle.cert_text.specs.declared.lines.TrackLine.TheVariants.{Illegal, NoCommon, PathsCap}
-use Rattle.verdict_plan.specs.TrackTests.{IsAnchoredBy, IsFitting, IsMapped, IsTrackLine, train_paths}
-use Rattle.verdict_plan.specs.inside.Trials.{IsCarriedAlong, IsMapAlong}
+use Rattle.verdict_plan.specs.TrackTests.{AreAnchorsIn, IsAnchoredBy, IsFitting, IsMapped, IsTrackLine, train_paths}
+use Rattle.verdict_plan.specs.inside.Trials.{IsAnswerIn, IsCarriedAlong, IsMapAlong, IsRefusedIn}
+use Rattle.verdict_plan.specs.declared.series.Series.{Series}
+use Rattle.verdict_plan.specs.declared.series.Series.TheVariants.{First, Further}
 
 -- ---- the map of a path and the substitution of its moves
 
@@ -51,14 +54,23 @@ module _ (triples : List (List ℤ)) (track : TrainTrack) (psi : GroupoidMap) (p
   abbrev both : BranchAgreement triples track.left_out branches (substitution psi.images) (path_map path)
   both = same.branches branches on.branches
 
-  anchored : (anchors : List Place) → AreAnchors triples track.left_out (substitution psi.images) anchors
-      → IsAnchoredBy triples path track.left_out branches anchors
-  anchored anchors h = record { mapped = small; listed = on.branches; first = same.anchors anchors h }
+  -- the rule of the series chooses these
+  abbrev AreChosen : Series → List Place → Type 0
+  AreChosen series anchors = AreAnchorsIn series triples track.left_out branches (substitution psi.images) anchors
 
-  fitting : (anchors : List Place) → AreAnchors triples track.left_out (substitution psi.images) anchors
-      → AllFitBy triples track psi anchors → IsFitting triples path track.left_out branches anchors
-  fitting anchors h fit = record {
-    anchored = anchored anchors h;
+  chosen : (series : Series) (anchors : List Place) → AreChosen series anchors
+      → AreAnchorsIn series triples track.left_out branches (path_map path) anchors
+  chosen First anchors h = same.anchors anchors h
+  chosen Further anchors h = same.middles branches on.branches anchors h
+
+  anchored : (series : Series) (anchors : List Place) → AreChosen series anchors
+      → IsAnchoredBy series triples path track.left_out branches anchors
+  anchored series anchors h = record { mapped = small; listed = on.branches; chosen = chosen series anchors h }
+
+  fitting : (series : Series) (anchors : List Place) → AreChosen series anchors → AllFitBy triples track psi anchors
+      → IsFitting series triples path track.left_out branches anchors
+  fitting series anchors h fit = record {
+    anchored = anchored series anchors h;
     fit = λ j below. both.fit anchors fit j [] below;
   }
 
@@ -68,44 +80,64 @@ module _ (triples : List (List ℤ)) (track : TrainTrack) (psi : GroupoidMap) (p
       ap words_of (both.walks anchors)
       ∙ map-map (λ (w : DualWalk). w.letters) (walk_by triples track.left_out (path_map path) anchors) branches
 
-  pub no_common : (e : ℤ) (n : ℕ) → IsRefusedFor triples track psi letter_cap (refused.NoCommonPart e)
-      → (e ≡ pos n) → IsTrackLine triples path track.left_out (NoCommon n)
-  no_common e n (i, without, is) number = (small, (i, same.without i without, sym number ∙ is))
+  pub no_common : (series : Series) (e : ℤ) (n : ℕ)
+      → IsRefusedIn series triples track psi letter_cap (refused.NoCommonPart e) → (e ≡ pos n)
+      → IsTrackLine series triples path track.left_out (NoCommon n)
+  no_common First e n (i, without, is) number = (small, (i, same.without i without, sym number ∙ is))
+  no_common Further e n (i, without, is) number = (small, (i, same.without i without, sym number ∙ is))
 
-  pub illegal : (j : ℕ) → IsRefusedFor triples track psi letter_cap (refused.Illegal j)
-      → IsTrackLine triples path track.left_out (Illegal j)
-  illegal j (anchors, first, unfit) = (branches, anchors, anchored anchors first, both.unfit anchors j unfit)
+  pub illegal : (series : Series) (j : ℕ) → IsRefusedIn series triples track psi letter_cap (refused.Illegal j)
+      → IsTrackLine series triples path track.left_out (Illegal j)
+  illegal First j (anchors, h, unfit) = (branches, anchors, anchored First anchors h, both.unfit anchors j unfit)
+  illegal Further j (anchors, h, unfit) = (branches, anchors, anchored Further anchors h, both.unfit anchors j unfit)
 
-  pub paths_cap : (letters : ℕ) → IsRefusedFor triples track psi letter_cap (refused.CapPassed letters)
-      → IsTrackLine triples path track.left_out (PathsCap letters)
-  paths_cap letters (anchors, first, (fit, over)) = (
+  over : (series : Series) (letters : ℕ) (anchors : List Place) → AreChosen series anchors
+      → AllFitBy triples track psi anchors
+      → PassesCap (map (λ (p : Place). p.connect) anchors) (words_of (walks_by triples track psi anchors)) letter_cap
+      letters
+      → IsTrackLine series triples path track.left_out (PathsCap letters)
+  over series letters anchors h fit past = (
     branches,
     anchors,
-    fitting anchors first fit,
+    fitting series anchors h fit,
     subst (λ (ws : List (List ℤ)). PassesCap (map (λ (p : Place). p.connect) anchors) ws letter_cap letters)
-        (paths_are anchors) over,
+        (paths_are anchors) past,
   )
 
-  pub carried_along : (c : CarryingWalks) → IsOdd (path_map path)
-      → IsMap triples triples (substitution psi.images) (vertex_image psi)
-      → IsAnchorAnswer triples track psi letter_cap c
+  pub paths_cap : (series : Series) (letters : ℕ)
+      → IsRefusedIn series triples track psi letter_cap (refused.CapPassed letters)
+      → IsTrackLine series triples path track.left_out (PathsCap letters)
+  paths_cap First letters (anchors, h, (fit, past)) = over First letters anchors h fit past
+  paths_cap Further letters (anchors, h, (fit, past)) = over Further letters anchors h fit past
+
+  carried_by : (series : Series) (c : CarryingWalks) → IsOdd (path_map path)
+      → IsMap triples triples (substitution psi.images) (vertex_image psi) → (anchors : List Place)
+      → AreChosen series anchors → IsAnswerBy triples track psi anchors letter_cap c
       → IsCarried triples track.left_out branches (substitution psi.images) (vertex_image psi) (carrying_of c)
-      → All (IsWalkOn triples) c.images → IsCarriedAlong triples path track c
-  carried_along c odd is_map h carries walks = record {
+      → All (IsWalkOn triples) c.images → IsCarriedAlong series triples path track c
+  carried_by series c odd is_map anchors h answer carries walks = record {
     on = on;
     walks = walks;
-    anchors = h.anchors;
-    fitting = fitting h.anchors h.first h.answer.fit;
+    anchors = anchors;
+    fitting = fitting series anchors h answer.fit;
     few_between =
-        subst (λ (ws : List (List ℤ)). letters_together ws ≤ letter_cap) h.answer.connect h.answer.few_between;
-    few_along = h.answer.few_along;
-    to = h.answer.to;
-    connect = h.answer.connect;
-    images = ap words_of h.answer.images ∙ paths_are h.anchors;
+        subst (λ (ws : List (List ℤ)). letters_together ws ≤ letter_cap) answer.connect answer.few_between;
+    few_along = answer.few_along;
+    to = answer.to;
+    connect = answer.connect;
+    images = ap words_of answer.images ∙ paths_are anchors;
     triangles = vertex_image psi;
     map = same.maps triples (vertex_image psi) is_map odd;
     carried = both.carried (vertex_image psi) (carrying_of c) carries;
   }
+
+  pub carried_along : (series : Series) (c : CarryingWalks) → IsOdd (path_map path)
+      → IsMap triples triples (substitution psi.images) (vertex_image psi)
+      → IsAnswerIn series triples track psi letter_cap c
+      → IsCarried triples track.left_out branches (substitution psi.images) (vertex_image psi) (carrying_of c)
+      → All (IsWalkOn triples) c.images → IsCarriedAlong series triples path track c
+  carried_along First c odd is_map h = carried_by First c odd is_map h.anchors h.first h.answer
+  carried_along Further c odd is_map h = carried_by Further c odd is_map h.anchors h.chosen h.answer
 
 -- ---- told of a path
 
@@ -141,28 +173,39 @@ module _ (arena : Arena) (is_arena : IsArena arena) (images : ImageLaws) (laws :
       laws triples track.left_out (substitution psi.images) (path_map moves)
       (agree arena track path psi images is_arena h)
 
-  pub told_no_common : (e : ℤ) (n : ℕ) → IsRefusedFor triples track psi letter_cap (refused.NoCommonPart e)
-      → ((m : ℕ) → e ≡ pos m → n ≡ m) → IsTrackLine triples moves track.left_out (NoCommon n)
-  told_no_common e n (i, without, is) number =
-      let (m, which) = is_number triples track.left_out i without.within in
-      let edge : e ≡ pos m = is ∙ which in
-      no_common triples track psi moves on_it short agreement e n (i, without, is)
+  number_of : (e : ℤ) (i : ℕ) → i < length (switches_of triples track.left_out)
+      → e ≡ letter_at (switches_of triples track.left_out) i → (m : ℕ) × (e ≡ pos m)
+  number_of e i within is = (let (m, which) = is_number triples track.left_out i within in (m, is ∙ which))
+
+  refused_number : (series : Series) (e : ℤ)
+      → IsRefusedIn series triples track psi letter_cap (refused.NoCommonPart e) → (m : ℕ) × (e ≡ pos m)
+  refused_number First e (i, without, is) = number_of e i without.within is
+  refused_number Further e (i, without, is) = number_of e i without.within is
+
+  pub told_no_common : (series : Series) (e : ℤ) (n : ℕ)
+      → IsRefusedIn series triples track psi letter_cap (refused.NoCommonPart e)
+      → ((m : ℕ) → e ≡ pos m → n ≡ m) → IsTrackLine series triples moves track.left_out (NoCommon n)
+  told_no_common series e n refusal number =
+      let (m, edge) = refused_number series e refusal in
+      no_common triples track psi moves on_it short agreement series e n refusal
       (edge ∙ ap pos (sym (number m edge)))
 
-  pub told_illegal : (j : ℕ) → IsRefusedFor triples track psi letter_cap (refused.Illegal j)
-      → IsTrackLine triples moves track.left_out (Illegal j)
+  pub told_illegal : (series : Series) (j : ℕ) → IsRefusedIn series triples track psi letter_cap (refused.Illegal j)
+      → IsTrackLine series triples moves track.left_out (Illegal j)
   told_illegal = illegal triples track psi moves on_it short agreement
 
-  pub told_paths_cap : (letters : ℕ) → IsRefusedFor triples track psi letter_cap (refused.CapPassed letters)
-      → IsTrackLine triples moves track.left_out (PathsCap letters)
+  pub told_paths_cap : (series : Series) (letters : ℕ)
+      → IsRefusedIn series triples track psi letter_cap (refused.CapPassed letters)
+      → IsTrackLine series triples moves track.left_out (PathsCap letters)
   told_paths_cap = paths_cap triples track psi moves on_it short agreement
 
-  pub told_carried : PathLaws → (c : CarryingWalks) → IsAnchorAnswer triples track psi letter_cap c
+  pub told_carried : PathLaws → (series : Series) (c : CarryingWalks)
+      → IsAnswerIn series triples track psi letter_cap c
       → IsCarried triples track.left_out (words_of track.branches) (substitution psi.images) (vertex_image psi)
       (carrying_of c)
-      → All (IsWalkOn triples) c.images → IsCarriedAlong triples moves track c
-  told_carried paths c is carries walks =
-      carried_along triples track psi moves on_it short agreement c (paths.odd moves)
+      → All (IsWalkOn triples) c.images → IsCarriedAlong series triples moves track c
+  told_carried paths series c is carries walks =
+      carried_along triples track psi moves on_it short agreement series c (paths.odd moves)
       (subst (λ (t : ℕ). IsMap (triangulation arena t) triples (substitution psi.images) (vertex_image psi))
       h.map.source
       (subst (λ (t : ℕ). IsMap (triangulation arena psi.source) (triangulation arena t) (substitution psi.images)

@@ -19,10 +19,10 @@ use Rattle.train_track.specs.Branches.{TrainTrack}
 use Rattle.train_track.specs.Tracks.{IsFilling}
 use Rattle.cert_text.specs.Limits.{letter_cap}
 use Rattle.cert_text.specs.declared.lines.TrackLine.TheVariants.{Cap}
-use Rattle.verdict_plan.specs.inside.Staged.{there, IsKept}
+use Rattle.cycle_stages.specs.KeptStages.{there, IsKept}
 use Rattle.verdict_plan.specs.inside.Sites.{IsTrackAt, IsBackWay, IsLineWith, corners_at, path_at}
 use Rattle.verdict_plan.specs.inside.Ways.{IsWayAlong, IsPast}
-use Rattle.verdict_plan.specs.declared.stages.Stage.{Stage}
+use Rattle.cycle_stages.specs.declared.stages.Stage.{Stage}
 use Rattle.verdict_plan.specs.declared.ways.Way.{Way}
 
 -- ---- the first move past the cap

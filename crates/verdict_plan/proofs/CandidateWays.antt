@@ -23,12 +23,13 @@ use Rattle.cert_text.specs.declared.carried_track.Pa.{Pa}
 use Rattle.cert_text.specs.declared.lines.TrackLine.{TrackLine}
 use Rattle.cert_text.specs.declared.lines.TrackLine.TheVariants.{Cap}
 use Rattle.verdict_plan.specs.TrackTests.{IsTrackLine}
-use Rattle.verdict_plan.specs.inside.Staged.{there, IsKept}
+use Rattle.cycle_stages.specs.KeptStages.{there, IsKept}
+use Rattle.verdict_plan.specs.declared.series.Series.TheVariants.{First}
 use Rattle.verdict_plan.specs.inside.Sites.{IsTrackAt, IsBackWay, IsLineWith, corners_at, path_at}
 use Rattle.verdict_plan.specs.inside.Trials.{IsMapAlong, IsSoundPass}
 use Rattle.verdict_plan.specs.inside.Turns.{IsOutcomeAt}
 use Rattle.verdict_plan.specs.inside.Ways.{IsWayAlong, IsPast}
-use Rattle.verdict_plan.specs.declared.stages.Stage.{Stage}
+use Rattle.cycle_stages.specs.declared.stages.Stage.{Stage}
 use Rattle.verdict_plan.specs.declared.ways.Way.{Way}
 use Rattle.verdict_plan.proofs.WayMaps.{way_target}
 
@@ -86,25 +87,25 @@ module _ (arena : Arena) (word : MovePath) (s : Stage) (power : ℕ) (way : Way)
     pub outcome : {E : Type 0} (psi : GroupoidMap) → IsMapAlong arena track whole psi
         → (r : Result (Result Pa TrackLine) E)
         → IfOk r (λ a. IfOk a (λ p. (path : MovePath) → IsMapAlong arena track path psi
-        → IsSoundPass (triangulation arena track.tri) (moves_of arena path) track.left_out (track_seen p)))
+        → IsSoundPass First (triangulation arena track.tri) (moves_of arena path) track.left_out (track_seen p)))
         → IfOk r (λ a. IfOk a (λ p. p.power ≡ power))
         → IfOk r (λ a. IfOk a (λ p. p.flips.items ≡ s.edges.items))
         → IfOk r (λ a. IfErr a (λ line. (path : MovePath) → IsMapAlong arena track path psi
-        → IsTrackLine (triangulation arena track.tri) (moves_of arena path) track.left_out line))
+        → IsTrackLine First (triangulation arena track.tri) (moves_of arena path) track.left_out line))
         → IfOk r (IsOutcomeAt arena word s power)
     outcome psi map (Ok (Ok pa)) passes powers flips line = record {
-      sound = found_of (λ ts ms out. IsSoundPass ts ms out (track_seen pa)) (passes whole map);
+      sound = found_of (λ ts ms out. IsSoundPass First ts ms out (track_seen pa)) (passes whole map);
       has_power = powers;
       has_flips = flips;
     }
     outcome psi map (Ok (Err l)) passes powers flips line =
-        found_of (λ ts ms out. IsTrackLine ts ms out l) (line whole map)
+        found_of (λ ts ms out. IsTrackLine First ts ms out l) (line whole map)
     outcome psi map (Err e) passes powers flips line = tt
 
     -- the map passes the cap on the flips
     pub line_whole : (letters : ℕ) → IsPast arena whole letters → IsLineWith arena word s power (Cap letters)
     line_whole letters (made, past) =
-        found_of (λ ts ms out. IsTrackLine ts ms out (Cap letters)) (
+        found_of (λ ts ms out. IsTrackLine First ts ms out (Cap letters)) (
           at.here.on.filling,
           (
             made,

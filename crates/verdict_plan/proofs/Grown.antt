@@ -24,10 +24,12 @@ use Rattle.cert_text.specs.PseudoAnosov.{conjugated}
 use Rattle.cert_text.specs.declared.lines.TrackLine.{TrackLine}
 use Rattle.cert_text.specs.declared.lines.TrackLine.TheVariants.{Cap}
 use Rattle.multicurve_cert.specs.CurveAnswers.{vector_of}
-use Rattle.verdict_plan.specs.TrackAnswers.{depth_of, power_of}
-use Rattle.verdict_plan.specs.Stages.{IsStage}
+use Rattle.verdict_plan.specs.FirstTracks.{depth_of, power_of}
+use Rattle.cycle_stages.specs.Stages.{IsStage}
 use Rattle.verdict_plan.specs.TrackTests.{IsTrackLine}
-use Rattle.verdict_plan.specs.inside.Staged.{there, IsKept, IsStageIn}
+use Rattle.cycle_stages.specs.KeptStages.{there, IsKept, IsStageIn}
+use Rattle.cycle_stages.specs.StageLaws.{StageLaws}
+use Rattle.verdict_plan.specs.declared.series.Series.TheVariants.{First}
 use Rattle.verdict_plan.specs.inside.Sites.{IsTrackAt, IsBackWay, IsProgress, IsStanding, IsSite, IsSiteOf}
 use Rattle.verdict_plan.specs.inside.Sites.{AreSitesFrom, AreSites}
 use Rattle.verdict_plan.specs.inside.Turns.{AreOtherSites}
@@ -37,9 +39,8 @@ use Rattle.verdict_plan.specs.declared.progress.Progress.TheVariants.{Taken, Pas
 use Rattle.verdict_plan.specs.declared.sites.Site.{Site}
 use Rattle.verdict_plan.specs.declared.sites.Standing.{Standing}
 use Rattle.verdict_plan.specs.declared.sites.Standing.TheVariants.{Failed, Open}
-use Rattle.verdict_plan.specs.declared.stages.Stage.{Stage}
+use Rattle.cycle_stages.specs.declared.stages.Stage.{Stage}
 use Rattle.verdict_plan.specs.declared.ways.Way.{Way}
-use Rattle.verdict_plan.proofs.StageSteps.{kept_as_it_grows}
 
 module _ (old new : Arena) (growth : GrowthLaws) (grows : Grows old new) where
   -- a triangulation
@@ -196,14 +197,14 @@ module _ (old new : Arena) (growth : GrowthLaws) (grows : Grows old new) where
         }
 
         line_kept : (power : ℕ) (line : TrackLine)
-            → IsTrackLine (there old s) (conjugated (triangulation old 0) (moves_of old word) s.edges.items power)
+            → IsTrackLine First (there old s) (conjugated (triangulation old 0) (moves_of old word) s.edges.items power)
             (free_corners (there old s) s.coords.numbers) line
-            → IsTrackLine (there new s) (conjugated (triangulation new 0) (moves_of new word) s.edges.items power)
+            → IsTrackLine First (there new s) (conjugated (triangulation new 0) (moves_of new word) s.edges.items power)
             (free_corners (there new s) s.coords.numbers) line
         line_kept power line h =
-            here_too (λ ts ms. IsTrackLine (there new s) (conjugated ts ms s.edges.items power)
+            here_too (λ ts ms. IsTrackLine First (there new s) (conjugated ts ms s.edges.items power)
             (free_corners (there new s) s.coords.numbers) line)
-            (subst (λ (ts : List (List ℤ)). IsTrackLine ts
+            (subst (λ (ts : List (List ℤ)). IsTrackLine First ts
             (conjugated (triangulation old 0) (moves_of old word) s.edges.items power)
             (free_corners ts s.coords.numbers) line) there_same h)
 
@@ -228,40 +229,41 @@ module _ (old new : Arena) (growth : GrowthLaws) (grows : Grows old new) where
 
       -- ---- sites
 
-      pub site_kept : (w : List ℕ) (depth power : ℕ) (site : Site) → IsSite old word w depth power site
-          → IsSite new word w depth power site
-      site_kept w depth power site h = record {
-        kept = kept_as_it_grows old new growth grows site.stage h.kept;
-        stage = stage_kept site.stage h.kept w depth h.stage;
-        standing = standing_kept site.stage h.kept power site.standing h.standing;
-      }
-
-      module _ (cycles : List (List ℤ)) where
-        pub site_of_kept : (n : ℕ) (site : Site) → IsSiteOf old word cycles n site → IsSiteOf new word cycles n site
-        site_of_kept n site h =
-            subst (λ (ts : List (List ℤ)). IsSite new word (vector_of ts cycles n) (depth_of cycles n)
-            (power_of cycles n) site) base_same
-            (site_kept (vector_of (triangulation old 0) cycles n) (depth_of cycles n) (power_of cycles n) site h)
-
-        from_kept : (n : ℕ) (sites : List Site) → AreSitesFrom old word cycles n sites
-            → AreSitesFrom new word cycles n sites
-        from_kept n [] h = tt
-        from_kept n (site ∷ sites) h = (site_of_kept n site h.0, from_kept (n + 1) sites h.1)
-
-        pub sites_kept : (n : ℕ) (sites : List Site) → AreSites old word cycles n sites
-            → AreSites new word cycles n sites
-        sites_kept n sites h = record {
-          first = h.first;
-          from = from_kept h.first sites h.from;
-          up_to = h.up_to;
-          one_each = h.one_each;
+      module _ (stages : StageLaws) where
+        pub site_kept : (w : List ℕ) (depth power : ℕ) (site : Site) → IsSite old word w depth power site
+            → IsSite new word w depth power site
+        site_kept w depth power site h = record {
+          kept = stages.kept old new site.stage grows h.kept;
+          stage = stage_kept site.stage h.kept w depth h.stage;
+          standing = standing_kept site.stage h.kept power site.standing h.standing;
         }
 
-        pub others_kept : (n : ℕ) (sites : List Site) → AreOtherSites old word cycles n sites
-            → AreOtherSites new word cycles n sites
-        others_kept n sites h = record {
-          first = h.first;
-          from = from_kept h.first sites h.from;
-          up_to = h.up_to;
-          one_each = h.one_each;
-        }
+        module _ (cycles : List (List ℤ)) where
+          pub site_of_kept : (n : ℕ) (site : Site) → IsSiteOf old word cycles n site → IsSiteOf new word cycles n site
+          site_of_kept n site h =
+              subst (λ (ts : List (List ℤ)). IsSite new word (vector_of ts cycles n) (depth_of cycles n)
+              (power_of cycles n) site) base_same
+              (site_kept (vector_of (triangulation old 0) cycles n) (depth_of cycles n) (power_of cycles n) site h)
+
+          from_kept : (n : ℕ) (sites : List Site) → AreSitesFrom old word cycles n sites
+              → AreSitesFrom new word cycles n sites
+          from_kept n [] h = tt
+          from_kept n (site ∷ sites) h = (site_of_kept n site h.0, from_kept (n + 1) sites h.1)
+
+          pub sites_kept : (n : ℕ) (sites : List Site) → AreSites old word cycles n sites
+              → AreSites new word cycles n sites
+          sites_kept n sites h = record {
+            first = h.first;
+            from = from_kept h.first sites h.from;
+            up_to = h.up_to;
+            one_each = h.one_each;
+          }
+
+          pub others_kept : (n : ℕ) (sites : List Site) → AreOtherSites old word cycles n sites
+              → AreOtherSites new word cycles n sites
+          others_kept n sites h = record {
+            first = h.first;
+            from = from_kept h.first sites h.from;
+            up_to = h.up_to;
+            one_each = h.one_each;
+          }

@@ -9,10 +9,11 @@ use Rattle.tri_atlas.specs.Paths.{MovePath, moves_of}
 use Rattle.train_track.specs.Branches.{TrainTrack}
 use Rattle.cert_text.specs.declared.lines.TrackLine.{TrackLine}
 use Rattle.verdict_plan.specs.TrackTests.{IsTrackLine}
+use Rattle.verdict_plan.specs.declared.series.Series.TheVariants.{First}
 use Rattle.verdict_plan.specs.inside.Known.{IsLineFor}
 use Rattle.verdict_plan.specs.inside.Sites.{IsLineWith, IsTrackAt, corners_at, path_at}
-use Rattle.verdict_plan.specs.inside.Staged.{IsKept}
-use Rattle.verdict_plan.specs.declared.stages.Stage.{Stage}
+use Rattle.cycle_stages.specs.KeptStages.{IsKept}
+use Rattle.cycle_stages.specs.declared.stages.Stage.{Stage}
 
 module _ (arena : Arena) (word : MovePath) (s : Stage) (kept : IsKept arena s) (track : TrainTrack)
     (at : IsTrackAt arena s track) (power : ℕ) (line : TrackLine) where
@@ -22,18 +23,18 @@ module _ (arena : Arena) (word : MovePath) (s : Stage) (kept : IsKept arena s) (
   pub line_here : IsLineFor base (moves_of arena word) s.edges.items track.left_out power line
       → IsLineWith arena word s power line
   line_here h =
-      subst (λ (ts : List (List ℤ)). IsTrackLine ts (path_at arena word s power) (corners_at arena s) line)
+      subst (λ (ts : List (List ℤ)). IsTrackLine First ts (path_at arena word s power) (corners_at arena s) line)
       (sym kept.leads)
-      (subst (λ (out : List ℤ). IsTrackLine (flipped_along base s.edges.items) (path_at arena word s power) out line)
-      at.corners h)
+      (subst (λ (out : List ℤ). IsTrackLine First (flipped_along base s.edges.items) (path_at arena word s power) out
+      line) at.corners h)
 
   pub line_anywhere : IsLineWith arena word s power line
       → IsLineFor base (moves_of arena word) s.edges.items track.left_out power line
   line_anywhere h =
-      subst (λ (out : List ℤ). IsTrackLine (flipped_along base s.edges.items) (path_at arena word s power) out line)
-      (sym at.corners)
-      (subst (λ (ts : List (List ℤ)). IsTrackLine ts (path_at arena word s power) (corners_at arena s) line) kept.leads
-      h)
+      subst (λ (out : List ℤ). IsTrackLine First (flipped_along base s.edges.items) (path_at arena word s power) out
+      line) (sym at.corners)
+      (subst (λ (ts : List (List ℤ)). IsTrackLine First ts (path_at arena word s power) (corners_at arena s) line)
+      kept.leads h)
 
 -- what is told of the value in a `Some`
 pub some_told : {X : Type 0} {r : Option X} {x : X} (P : X → Type 0) → r ≡ Some x → IfSome r P → P x

@@ -3,10 +3,6 @@ pub mod Following
 pub mod NoOrders
 pub mod CycleWalks
 pub mod Sound
-pub mod FlipPaths
-pub mod GreatestFlips
-pub mod LastImages
-pub mod StageSteps
 pub mod WayMaps
 pub mod BackWays
 pub mod Grown
@@ -22,3 +18,9 @@ pub mod TrainPathEnds
 pub mod PassedTracks
 pub mod PassingTracks
 pub mod GrownBase
+pub mod FurtherLines
+pub mod GrownStages
+pub mod JoinedLists
+pub mod LightCorners
+pub mod Reached
+pub mod TrackOutcomes

@@ -5,7 +5,6 @@ use Rattle.tri_atlas.specs.Maps.{path_map}
 use Rattle.train_track.specs.Branches.{TrainTrack, words_of}
 use Rattle.transition_matrix.specs.Bounds.{IsBounds}
 use Rattle.transition_matrix.specs.Matrices.{Square, IsLeastExponent}
-use Rattle.growth_bounds.specs.Rule.{IsRuledBy}
 use Rattle.carry_map.specs.AnchorAnswers.{letters_together}
 use Rattle.carry_map.specs.CarriedMaps.{Carrying, IsCarried}
 use Rattle.carry_map.specs.CarryingWalks.{CarryingWalks as Carried, carrying_of as carrying}
@@ -16,14 +15,15 @@ use Rattle.cert_text.specs.PseudoAnosov.{carrying_of, matrix_of}
 use Rattle.cert_text.specs.declared.lines.TrackLine.{TrackLine}
 use Rattle.cert_text.specs.declared.lines.TrackLine.TheVariants.{TwoLeftOut, VertexClosed, Cap, NoCommon}
 use Rattle.cert_text.specs.declared.lines.TrackLine.TheVariants.{Illegal, PathsCap, NotPrimitive, NoBounds}
-use Rattle.verdict_plan.specs.TrackTests.{IsCounted, IsTrackLine, train_paths}
+use Rattle.verdict_plan.specs.TrackTests.{IsCounted, IsRuledIn, IsTrackLine, train_paths}
+use Rattle.verdict_plan.specs.declared.series.Series.{Series}
 use Rattle.verdict_plan.specs.declared.track_growth.Growth.{Growth}
 use Rattle.verdict_plan.specs.inside.Trials.{GrowsNot, GrowsSo, IsCarriedAlong, IsSoundPass, Tells}
 
-module _ (triples : List (List ℤ)) (path : List Move) (track : TrainTrack) (c : Carried)
-    (h : IsCarriedAlong triples path track c) (m : Square)
+module _ (series : Series) (triples : List (List ℤ)) (path : List Move) (track : TrainTrack) (c : Carried)
+    (h : IsCarriedAlong series triples path track c) (m : Square)
     (transition : IsTransition (words_of track.branches) (words_of c.images) m) where
-  counted : (n : Square) → n ≡ m → IsCounted triples path track.left_out (words_of track.branches) h.anchors n
+  counted : (n : Square) → n ≡ m → IsCounted series triples path track.left_out (words_of track.branches) h.anchors n
   counted n same = record {
     fitting = h.fitting;
     few_between = h.few_between;
@@ -34,7 +34,7 @@ module _ (triples : List (List ℤ)) (path : List Move) (track : TrainTrack) (c 
         (subst (λ (ws : List (List ℤ)). IsTransition (words_of track.branches) ws m) h.images transition);
   }
 
-  pub told_line : (line : TrackLine) → GrowsNot m line → IsTrackLine triples path track.left_out line
+  pub told_line : (line : TrackLine) → GrowsNot series m line → IsTrackLine series triples path track.left_out line
   told_line (TwoLeftOut t) never = absurd never
   told_line (VertexClosed v) never = absurd never
   told_line (Cap letters) never = absurd never
@@ -44,7 +44,8 @@ module _ (triples : List (List ℤ)) (path : List Move) (track : TrainTrack) (c 
   told_line NotPrimitive none = (words_of track.branches, h.anchors, m, counted m refl, none)
   told_line NoBounds none = (words_of track.branches, h.anchors, m, counted m refl, none.0, none.1)
 
-  module _ (growth : Growth) (grows : GrowsSo m growth) (p : CarriedTrack) (tells : Tells track c m growth p) where
+  module _ (growth : Growth) (grows : GrowsSo series m growth) (p : CarriedTrack)
+      (tells : Tells track c m growth p) where
     same_matrix : matrix_of p ≡ m
     same_matrix = tells.rows.matrix
 
@@ -58,7 +59,7 @@ module _ (triples : List (List ℤ)) (path : List Move) (track : TrainTrack) (c 
         ∙ ap (λ (ws : List (List ℤ)). record { to = c.to; connect = ws; images = p.images }) tells.connect
         ∙ ap (λ (ws : List (List ℤ)). record { to = c.to; connect = words_of c.connect; images = ws }) tells.images
 
-    pub sound_pass : IsSoundPass triples path track.left_out p
+    pub sound_pass : IsSoundPass series triples path track.left_out p
     sound_pass = record {
       passing = record {
         branches = words_of track.branches;
@@ -75,7 +76,7 @@ module _ (triples : List (List ℤ)) (path : List Move) (track : TrainTrack) (c 
             (subst (λ (n : Square). IsLeastExponent n growth.exponent) (sym same_matrix) grows.exponent);
         within_limit = subst (λ (k : ℕ). k ≤ exponent_limit) (sym tells.exponent) grows.within_limit;
         bounds = growth.bounds;
-        ruled = subst (λ (n : Square). IsRuledBy n growth.bounds) (sym same_matrix) grows.ruled;
+        ruled = subst (λ (n : Square). IsRuledIn series n growth.bounds) (sym same_matrix) grows.ruled;
         row = tells.row;
         low = tells.low;
         high = tells.high;

@@ -1,6 +1,6 @@
 -- A candidate that passes gives a certificate that holds.
 --
--- The tests give all that the certificate asks of the carried track. Of its growth, the bounds are those of the rule:
+-- The tests give all that the certificate asks of the carried track. Of its growth, the bounds are those of either rule:
 -- the row is that of column sums of a power for which this row and the next stay below the limit, the row is positive,
 -- and the next is greater in each entry. The next row is the row times the matrix. Each of the two ratios is that of two
 -- entries of these rows at one place, so that its numbers are positive and below the limit.
@@ -12,7 +12,7 @@ use Rattle.train_track.specs.Branches.{IsBranchList}
 use Rattle.transition_matrix.specs.Bounds.{column_sum, times}
 use Rattle.transition_matrix.specs.Matrices.{Square, entry}
 use Rattle.transition_matrix.specs.MatrixLaws.{ColumnSumLaws, SumLaws}
-use Rattle.growth_bounds.specs.Rule.{IsLeastRatio, IsRuledBy, turned}
+use Rattle.growth_bounds.specs.Rule.{Grows, HasRatios, IsLeastRatio, turned}
 use Rattle.growth_bounds.specs.declared.rule.GrowthBounds.{GrowthBounds}
 use Rattle.carry_map.specs.AnchorAnswers.{letters_together}
 use Rattle.carry_map.specs.CarriedMaps.{IsCarried}
@@ -21,12 +21,35 @@ use Rattle.cert_text.specs.Certificates.{CarriedTrack}
 use Rattle.cert_text.specs.Limits.{letter_cap, number_limit}
 use Rattle.cert_text.specs.PseudoAnosov.{IsCarriedTrack, IsCount, IsGrowing}
 use Rattle.cert_text.specs.PseudoAnosov.{carrying_of, matrix_of, track_path, track_triangles}
-use Rattle.verdict_plan.specs.TrackTests.{IsPassing}
+use Rattle.verdict_plan.specs.TrackTests.{IsPassing, IsRuledIn}
+use Rattle.verdict_plan.specs.declared.series.Series.{Series}
+use Rattle.verdict_plan.specs.declared.series.Series.TheVariants.{First, Further}
 use Rattle.verdict_plan.specs.inside.Trials.{IsSoundPass, PassLaw}
 
 -- ---- the numbers of the bounds
 
-module _ (m : Square) (sums : SumLaws) (columns : ColumnSumLaws) (bounds : GrowthBounds) (rule : IsRuledBy m bounds) where
+-- by either rule the row grows
+grown : (series : Series) (m : Square) (bounds : GrowthBounds) → IsRuledIn series m bounds
+    → HasRatios m (Grows m) bounds
+grown First m bounds h = record {
+  number = h.number;
+  first = h.first.grows;
+  size = h.size;
+  row_is = h.row_is;
+  low = h.low;
+  high = h.high;
+}
+grown Further m bounds h = record {
+  number = h.number;
+  first = h.first.grows;
+  size = h.size;
+  row_is = h.row_is;
+  low = h.low;
+  high = h.high;
+}
+
+module _ (m : Square) (sums : SumLaws) (columns : ColumnSumLaws) (bounds : GrowthBounds)
+    (rule : HasRatios m (Grows m) bounds) where
   abbrev row : ℕ → ℕ
   row = column_sum m rule.number
 
@@ -34,12 +57,12 @@ module _ (m : Square) (sums : SumLaws) (columns : ColumnSumLaws) (bounds : Growt
   next = column_sum m (suc rule.number)
 
   row_count : (i : ℕ) → i < m.size → IsCount (row i)
-  row_count i below = (rule.first.grows.positive i below, rule.first.grows.small i below)
+  row_count i below = (rule.first.positive i below, rule.first.small i below)
 
   next_count : (i : ℕ) → i < m.size → IsCount (next i)
   next_count i below =
-      let some = rule.first.grows.positive i below in
-      let more = rule.first.grows.greater i below in (omega arith, rule.first.grows.next_small i below)
+      let some = rule.first.positive i below in
+      let more = rule.first.greater i below in (omega arith, rule.first.next_small i below)
 
   ratio_counts : (v u : ℕ → ℕ) (pair : ℕ × ℕ) → ((i : ℕ) → i < m.size → IsCount (v i))
       → ((i : ℕ) → i < m.size → IsCount (u i)) → IsLeastRatio m.size v u pair → IsCount pair.0 × IsCount pair.1
@@ -57,7 +80,7 @@ module _ (m : Square) (sums : SumLaws) (columns : ColumnSumLaws) (bounds : Growt
   row_small u is i below =
       subst (λ (n : ℕ). n < number_limit)
       (sym (ap (λ (xs : List ℕ). slice_index xs i) is ∙ rule.row_is i below))
-      (rule.first.grows.small i below)
+      (rule.first.small i below)
 
   next_is : (u : List ℕ) → u ≡ bounds.u.items → (i : ℕ) → times m (slice_index u) i ≡ next i
   next_is u is i =
@@ -68,14 +91,17 @@ module _ (m : Square) (sums : SumLaws) (columns : ColumnSumLaws) (bounds : Growt
 
   next_small : (u : List ℕ) → u ≡ bounds.u.items → (i : ℕ) → i < m.size → times m (slice_index u) i < number_limit
   next_small u is i below =
-      subst (λ (n : ℕ). n < number_limit) (sym (next_is u is i)) (rule.first.grows.next_small i below)
+      subst (λ (n : ℕ). n < number_limit) (sym (next_is u is i)) (rule.first.next_small i below)
 
 -- ---- the certificate
 
-module _ (triples : List (List ℤ)) (path : List Move) (left_out : List ℤ) (c : CarriedTrack)
-    (h : IsSoundPass triples path left_out c) where
-  abbrev passes : IsPassing triples path left_out c
+module _ (series : Series) (triples : List (List ℤ)) (path : List Move) (left_out : List ℤ) (c : CarriedTrack)
+    (h : IsSoundPass series triples path left_out c) where
+  abbrev passes : IsPassing series triples path left_out c
   passes = h.passing
+
+  ruled : HasRatios (matrix_of c) (Grows (matrix_of c)) passes.bounds
+  ruled = grown series (matrix_of c) passes.bounds passes.ruled
 
   is_growing : SumLaws → ColumnSumLaws → IsGrowing (matrix_of c) c
   is_growing sums columns = record {
@@ -85,12 +111,12 @@ module _ (triples : List (List ℤ)) (path : List Move) (left_out : List ℤ) (c
     bounds = h.bounds;
     low =
         subst (λ (low : ℕ × ℕ). IsCount low.0 × IsCount low.1) (sym passes.low)
-        (low_counts (matrix_of c) sums columns passes.bounds passes.ruled);
+        (low_counts (matrix_of c) sums columns passes.bounds ruled);
     high =
         subst (λ (high : ℕ × ℕ). IsCount high.0 × IsCount high.1) (sym passes.high)
-        (high_counts (matrix_of c) sums columns passes.bounds passes.ruled);
-    row = row_small (matrix_of c) sums columns passes.bounds passes.ruled c.u passes.row;
-    next_row = next_small (matrix_of c) sums columns passes.bounds passes.ruled c.u passes.row;
+        (high_counts (matrix_of c) sums columns passes.bounds ruled);
+    row = row_small (matrix_of c) sums columns passes.bounds ruled c.u passes.row;
+    next_row = next_small (matrix_of c) sums columns passes.bounds ruled c.u passes.row;
   }
 
   is_carried : IsCarriedTrack triples path c
@@ -123,11 +149,11 @@ module _ (triples : List (List ℤ)) (path : List Move) (left_out : List ℤ) (c
 
 -- the certificate of a candidate that passes holds
 pub passing_holds : SumLaws → ColumnSumLaws → PassLaw
-passing_holds sums columns triples moves left_out c positive within few flips h = record {
+passing_holds sums columns series triples moves left_out c positive within few flips h = record {
   positive = positive;
   within_limit = within;
   few_flips = few;
   flips = flips;
-  track = is_carried (track_triangles triples c) (track_path triples moves c) left_out c h;
-  growth = is_growing (track_triangles triples c) (track_path triples moves c) left_out c h sums columns;
+  track = is_carried series (track_triangles triples c) (track_path triples moves c) left_out c h;
+  growth = is_growing series (track_triangles triples c) (track_path triples moves c) left_out c h sums columns;
 }

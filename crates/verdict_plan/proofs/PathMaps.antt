@@ -11,14 +11,16 @@ use Rattle.train_track.specs.Branches.{TrainTrack}
 use Rattle.cert_text.specs.Limits.{letter_cap}
 use Rattle.cert_text.specs.declared.lines.TrackLine.TheVariants.{Cap}
 use Rattle.verdict_plan.specs.TrackTests.{IsTrackLine}
+use Rattle.verdict_plan.specs.declared.series.Series.{Series}
 use Rattle.verdict_plan.specs.inside.Trials.{IsMapAlong, IsPathOnTrack}
 
 module _ (arena : Arena) (found : FoundLaws) (sound : IsArena arena) (track : TrainTrack) (path : MovePath)
     (h : IsPathOnTrack arena track path) (new : GroupoidMap) where
   pub told_cap : (letters : ℕ)
       → IsPathRefusal arena (identity_map arena track.tri) new path.moves letter_cap (CapPassed letters)
-      → IsTrackLine (triangulation arena track.tri) (moves_of arena path) track.left_out (Cap letters)
-  told_cap letters refusal = (
+      → (series : Series)
+      → IsTrackLine series (triangulation arena track.tri) (moves_of arena path) track.left_out (Cap letters)
+  told_cap letters refusal series = (
     h.on.on.filling,
     subst (λ (t : ℕ). (made : ℕ) × IsFirstPast (triangulation arena t) (moves_of arena path) letter_cap made letters)
         h.start

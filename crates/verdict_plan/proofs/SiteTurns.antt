@@ -15,7 +15,7 @@ use Rattle.free_groupoid.specs.Walks.{DualWalk}
 use Rattle.train_track.specs.Branches.{words_of}
 use Rattle.multicurve_cert.specs.CurveAnswers.{vector_of}
 use Rattle.multicurve_cert.specs.Cycles.{IsCycle, cycle_vector}
-use Rattle.verdict_plan.specs.TrackAnswers.{depth_of, power_of}
+use Rattle.verdict_plan.specs.FirstTracks.{depth_of, power_of}
 use Rattle.verdict_plan.specs.inside.Sites.{IsSite, IsSiteOf, AreSites, AreSitesFrom, IsNextDepth, IsNextPower}
 use Rattle.verdict_plan.specs.inside.Sites.{IsProgress, IsStanding}
 use Rattle.verdict_plan.specs.inside.Turns.{AreOtherSites, IsFollowing}
@@ -24,7 +24,7 @@ use Rattle.verdict_plan.specs.declared.progress.Progress.TheVariants.{Taken, Pas
 use Rattle.verdict_plan.specs.declared.sites.Site.{Site}
 use Rattle.verdict_plan.specs.declared.sites.Standing.{Standing}
 use Rattle.verdict_plan.specs.declared.sites.Standing.TheVariants.{Failed, Open}
-use Rattle.verdict_plan.specs.declared.stages.Stage.{Stage}
+use Rattle.cycle_stages.specs.declared.stages.Stage.{Stage}
 
 -- ---- rounds
 

@@ -1,6 +1,6 @@
 -- What the phases found is a verdict, and its certificate holds and means what it says.
 use Rattle.std.proofs.Common.{◌≡◌, ◌≤◌, ◌∙◌, sym, subst, ℕ, ℤ, List, [], Option, Some, None, MatchOption, arith, refl}
-use Rattle.std.proofs.Common.{ap}
+use Rattle.std.proofs.Common.{ap, inl, inr}
 use Rattle.std.proofs.lemmas.List.{append-nil}
 use Rattle.edge_coords.specs.Coordinates.{Coordinates}
 use Rattle.edge_coords.specs.declared.lines.CurveLine.{CurveLine}
@@ -12,7 +12,7 @@ use Rattle.tri_atlas.specs.Moves.{Move, ArePath}
 use Rattle.free_groupoid.specs.InnerLaws.{InnerLaws, IsReducedLoop}
 use Rattle.periodic_cert.specs.PowerAnswers.{AreAllRefuted, IsCapped, IsOrder}
 use Rattle.multicurve_cert.specs.Candidates.{HasSmallImage, IsNothing, Passes, image_vector}
-use Rattle.multicurve_cert.specs.CurveAnswers.{AreAllFailing, IsFirstPassing, IsFoundIn, kind_of, vector_of}
+use Rattle.multicurve_cert.specs.CurveAnswers.{IsFoundIn, kind_of, vector_of}
 use Rattle.multicurve_cert.specs.PowerLaws.{PowerLaws}
 use Rattle.multicurve_cert.specs.declared.curve_search.Curves.TheVariants.{Found}
 use Rattle.cert_text.specs.CertificateLaws.{CertificateLaws, IsFixedVector}
@@ -20,7 +20,8 @@ use Rattle.cert_text.specs.declared.carried_track.Pa.{Pa}
 use Rattle.cert_text.specs.declared.certificate.Certificate.TheVariants.{PseudoAnosov}
 use Rattle.cert_text.specs.declared.lines.TrackLine.{TrackLine}
 use Rattle.cert_text.specs.PseudoAnosov.{IsPseudoAnosovCertificate}
-use Rattle.verdict_plan.specs.TrackAnswers.{AreNoTracks, IsFirstTrack}
+use Rattle.multicurve_cert.specs.LastTests.{PassesLast}
+use Rattle.verdict_plan.specs.AllCandidates.{AreFailedCurves, AreFailedTracks, IsFoundCurve, IsFoundTrack}
 use Rattle.cert_text.specs.Certificates.{pseudo_anosov, track_seen}
 use Rattle.cert_text.specs.Certificates.{Certificate, periodic, reducible, unknown, seen}
 use Rattle.cert_text.specs.Holds.{HoldsFor, IsPeriodicCertificate}
@@ -68,41 +69,51 @@ module _ (triples : List (List ℤ)) (moves : List Move) (budget : Budget) (tri 
   first_time : PowerLaws triples moves → ArePath triples moves triples
   first_time powers = subst (λ (ms : List Move). ArePath triples ms triples) (append-nil moves) (powers.path 1)
 
-  -- the first candidate that passes is fixed by the moves, by its numbers
-  found_vector : (arena : Arena) → triples ≡ triangulation arena 0 → PowerLaws triples moves → (number : ℕ)
-      (coords : Coordinates) → IsFirstPassing triples moves budget.curves number coords.numbers
-      → IsFoundIn arena (Found number coords) → IsFixedVector triples moves coords.numbers
-  found_vector arena base powers number coords first found =
-      let curve : IsMulticurve triples coords.numbers =
-      subst (λ (ts : List (List ℤ)). IsMulticurve ts coords.numbers)
-      (ap (triangulation arena) found.0 ∙ sym base) found.1.multicurve in
+  -- a candidate that passes makes the last three tests
+  passes_last : (number : ℕ) (numbers : List ℕ) → IsFoundCurve triples moves budget.curves number numbers
+      → PassesLast triples moves numbers
+  passes_last number numbers (inl first) =
       let passes : Passes triples moves (vector_of triples first.cycles number) (kind_of first.cycles number) =
       first.passes in
       record {
+        some = subst (λ (v : List ℕ). ¬ IsNothing v) (sym first.are_numbers) passes.0.some;
+        small = subst (HasSmallImage triples moves) (sym first.are_numbers) passes.1;
+        fixed = subst (λ (v : List ℕ). image_vector triples moves v ≡ v) (sym first.are_numbers) passes.2;
+      }
+  passes_last number numbers (inr further) = further.2.2.2.passes.passes
+
+  -- so its numbers are fixed by the moves
+  found_vector : (arena : Arena) → triples ≡ triangulation arena 0 → PowerLaws triples moves → (number : ℕ)
+      (coords : Coordinates) → PassesLast triples moves coords.numbers
+      → IsFoundIn arena (Found number coords) → IsFixedVector triples moves coords.numbers
+  found_vector arena base powers number coords last found =
+      let curve : IsMulticurve triples coords.numbers =
+      subst (λ (ts : List (List ℤ)). IsMulticurve ts coords.numbers)
+      (ap (triangulation arena) found.0 ∙ sym base) found.1.multicurve in
+      record {
         multicurve = curve;
         small = found.1.small;
-        some = subst (λ (v : List ℕ). ¬ IsNothing v) (sym first.are_numbers) passes.0.some;
+        some = last.some;
         free = subst (λ (ts : List (List ℤ)). HasFreeCorners ts coords.numbers) (sym base) found.2;
-        within = subst (HasSmallImage triples moves) (sym first.are_numbers) passes.1;
-        fixed = sym (powers.image coords.numbers curve)
-            ∙ subst (λ (v : List ℕ). image_vector triples moves v ≡ v) (sym first.are_numbers) passes.2;
+        within = last.small;
+        fixed = sym (powers.image coords.numbers curve) ∙ last.fixed;
       }
 
   pub reducible_sound : (arena : Arena) → triples ≡ triangulation arena 0 → PowerLaws triples moves
       → HasNoOrder triples moves budget.powers → (c : Declared) (number : ℕ) (coords : Coordinates)
-      → seen c ≡ reducible coords.numbers → IsFirstPassing triples moves budget.curves number coords.numbers
+      → seen c ≡ reducible coords.numbers → IsFoundCurve triples moves budget.curves number coords.numbers
       → IsFoundIn arena (Found number coords) → IsSound triples moves budget c
-  reducible_sound arena base powers none c number coords is first found =
-      sound_as c (reducible coords.numbers) is (none, (number, first))
+  reducible_sound arena base powers none c number coords is curve found =
+      sound_as c (reducible coords.numbers) is (none, (number, curve))
       ((laws.reducible triples moves coords.numbers tri (first_time powers)).1
-      (found_vector arena base powers number coords first found))
+      (found_vector arena base powers number coords (passes_last number coords.numbers curve) found))
 
   pub unknown_sound : HasNoOrder triples moves budget.powers → (c : Declared) (reasons : List (List ℤ))
       (past : Option (ℕ × ℕ)) (curves : List CurveLine) (tracks : List TrackLine)
       → seen c ≡ unknown reasons past curves tracks
       → MatchOption past (AreAllRefuted triples moves budget.powers letter_cap reasons)
       (λ p. IsCapped triples moves budget.powers letter_cap p.0 p.1 reasons)
-      → AreAllFailing triples moves budget.curves curves → AreNoTracks triples moves budget.tracks tracks
+      → AreFailedCurves triples moves budget.curves curves → AreFailedTracks triples moves budget.tracks tracks
       → IsSound triples moves budget c
   unknown_sound none c reasons None curves tracks is log lines others =
       sound_as c (unknown reasons None curves tracks) is (log, lines, others) tt
@@ -110,8 +121,8 @@ module _ (triples : List (List ℤ)) (moves : List Move) (budget : Budget) (tri 
       sound_as c (unknown reasons (Some p) curves tracks) is (log, lines, others) tt
 
   pub track_sound : HasNoOrder triples moves budget.powers → (log : List CurveLine)
-      → AreAllFailing triples moves budget.curves log → (number : ℕ) (pa : Pa)
-      → IsFirstTrack triples moves budget.tracks number (track_seen pa)
+      → AreFailedCurves triples moves budget.curves log → (number : ℕ) (pa : Pa)
+      → IsFoundTrack triples moves budget.tracks number (track_seen pa)
       → IsPseudoAnosovCertificate triples moves (track_seen pa)
       → IsSound triples moves budget (PseudoAnosov pa)
   track_sound none log lines number pa first holds =

@@ -24,15 +24,16 @@ use Rattle.cert_text.specs.Limits.{flip_limit, power_limit}
 use Rattle.cert_text.specs.PseudoAnosov.{IsPseudoAnosovCertificate, conjugated, track_path, track_triangles}
 use Rattle.cert_text.specs.declared.lines.TrackLine.{TrackLine}
 use Rattle.cert_text.specs.declared.lines.TrackLine.TheVariants.{NoBounds}
-use Rattle.verdict_plan.specs.Stages.{AreGreatestFlips, made, ended, flip}
-use Rattle.verdict_plan.specs.TrackAnswers.{IsFirstTrack, AreNoTracks, IsLineAt, IsStageAt, PassesAt}
-use Rattle.verdict_plan.specs.TrackAnswers.{depth_of, power_of, track_count, track_kinds}
+use Rattle.cycle_stages.specs.Stages.{AreGreatestFlips, made, ended, flip}
+use Rattle.verdict_plan.specs.FirstTracks.{IsFirstTrack, AreNoTracks, IsLineAt, IsStageAt, PassesAt}
+use Rattle.verdict_plan.specs.FirstTracks.{depth_of, power_of, track_count, track_kinds}
+use Rattle.verdict_plan.specs.declared.series.Series.TheVariants.{First}
 use Rattle.verdict_plan.specs.inside.Sites.{IsLineWith, IsSiteOf, IsStanding, corners_at}
-use Rattle.verdict_plan.specs.inside.Staged.{there, IsKept, IsStageIn}
+use Rattle.cycle_stages.specs.KeptStages.{there, IsKept, IsStageIn}
 use Rattle.verdict_plan.specs.inside.Trials.{IsSoundPass, PassLaw}
 use Rattle.verdict_plan.specs.inside.Turns.{AreLines, IsPassAt, IsTrial}
 use Rattle.verdict_plan.specs.declared.sites.Site.{Site}
-use Rattle.verdict_plan.specs.declared.stages.Stage.{Stage}
+use Rattle.cycle_stages.specs.declared.stages.Stage.{Stage}
 use Rattle.verdict_plan.specs.declared.trials.Trial.{Trial}
 use Rattle.verdict_plan.proofs.Grown.{here_before}
 
@@ -65,13 +66,13 @@ module _ (arena : Arena) (word : MovePath) (cycles : List (List ℤ)) (n : ℕ) 
   }
 
   module _ (c : CarriedTrack) (pass : IsPassAt arena word site.stage (power_of cycles n) c) where
-    sound : IsSoundPass (there arena site.stage) (conjugated triples moves c.flips c.power)
+    sound : IsSoundPass First (there arena site.stage) (conjugated triples moves c.flips c.power)
         (corners_at arena site.stage) c
     sound =
-        subst (λ (p : ℕ). IsSoundPass (there arena site.stage) (conjugated triples moves c.flips p)
+        subst (λ (p : ℕ). IsSoundPass First (there arena site.stage) (conjugated triples moves c.flips p)
         (corners_at arena site.stage) c) (sym pass.has_power)
-        (subst (λ (es : List ℕ). IsSoundPass (there arena site.stage) (conjugated triples moves es (power_of cycles n))
-        (corners_at arena site.stage) c) (sym pass.has_flips) pass.sound)
+        (subst (λ (es : List ℕ). IsSoundPass First (there arena site.stage)
+        (conjugated triples moves es (power_of cycles n)) (corners_at arena site.stage) c) (sym pass.has_flips) pass.sound)
 
     pub passes_at : PassesAt triples moves cycles n c
     passes_at = record {
@@ -102,9 +103,9 @@ module _ (arena : Arena) (word : MovePath) (cycles : List (List ℤ)) (n : ℕ) 
         subst (CanBeFlipped triples) (sym pass.has_flips) at.kept.flippable in
         let leads : there arena site.stage ≡ track_triangles triples c =
         at.kept.leads ∙ ap (flipped_along triples) (sym pass.has_flips) in
-        law triples moves (corners_at arena site.stage) c positive within (few some below) flippable
-        (subst (λ (ts : List (List ℤ)). IsSoundPass ts (track_path triples moves c) (corners_at arena site.stage) c)
-        leads sound)
+        law First triples moves (corners_at arena site.stage) c positive within (few some below) flippable
+        (subst (λ (ts : List (List ℤ)). IsSoundPass First ts (track_path triples moves c)
+        (corners_at arena site.stage) c) leads sound)
 
 -- its site once it is tried
 pub site_tried : (arena : Arena) (word : MovePath) (walks : List DualWalk) (n : ℕ) (site : Site)

@@ -22,6 +22,7 @@ use Rattle.train_track.specs.Passes.{IsFromSwitchToSwitch}
 use Rattle.train_track.specs.Tracks.{is_fork, is_switch, switches_of}
 use Rattle.carry_map.specs.CarriedMaps.{Carrying, IsTrainPath, beside, final, goes_to}
 use Rattle.carry_map.specs.CarryingWalks.{CarryingWalks, carrying_of}
+use Rattle.verdict_plan.specs.declared.series.Series.{Series}
 use Rattle.verdict_plan.specs.inside.Trials.{CanBeCounted, IsCarriedAlong}
 
 -- ---- the ends of a branch
@@ -139,8 +140,8 @@ has_ends ts out (x ∷ []) long begins ends = absurd (omega arith)
 has_ends ts out (x ∷ (y ∷ w)) long begins ends =
     record { first = x; second = y; rest = w; letters = refl; begins = begins; ends = ends }
 
-module _ (labels : LabelLaws) (ts : List (List ℤ)) (path : List Move) (track : TrainTrack) (c : CarryingWalks)
-    (h : IsCarriedAlong ts path track c) where
+module _ (labels : LabelLaws) (series : Series) (ts : List (List ℤ)) (path : List Move) (track : TrainTrack)
+    (c : CarryingWalks) (h : IsCarriedAlong series ts path track c) where
   one_each : length c.images ≡ length track.branches
   one_each =
       sym (length-map c.images (λ (w : DualWalk). w.letters)) ∙ h.carried.one_path_each

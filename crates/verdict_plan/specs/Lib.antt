@@ -1,6 +1,7 @@
 pub mod Budgets
-pub mod Stages
 pub mod TrackTests
-pub mod TrackAnswers
+pub mod FirstTracks
+pub mod FurtherTracks
+pub mod AllCandidates
 pub mod Verdicts
 pub mod inside

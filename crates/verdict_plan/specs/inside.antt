@@ -1,6 +1,8 @@
+pub mod FurtherSites
+pub mod FurtherStages
 pub mod Known
+pub mod OpenStages
 pub mod Sites
-pub mod Staged
 pub mod Trials
 pub mod Tried
 pub mod Turns

@@ -1,4 +1,5 @@
 //! Candidates for a carried track on the once-punctured torus.
+use crate::series::Series;
 use crate::track_growth::growth_of;
 use crate::track_tests::{track_of, try_track};
 use cert_text::{Pa, TrackLine};
@@ -34,7 +35,11 @@ fn tracks(rt: HostRuntime) -> Result<(), Fail> {
 fn growth(rt: HostRuntime) -> Result<(), Fail> {
     let alloc = rt.alloc();
     let columns = [[0, 0, 1].to_vec(alloc)?, [0, 1].to_vec(alloc)?];
-    match growth_of(alloc, &Matrix::from_columns(alloc, 2, &columns)?)? {
+    match growth_of(
+        alloc,
+        &Matrix::from_columns(alloc, 2, &columns)?,
+        Series::First,
+    )? {
         Ok(growth) => {
             assert_eq!(rt; growth.exponent, 1);
             assert_eq!(rt; growth.bounds.u.as_slice(), [55, 34].as_slice());
@@ -46,7 +51,11 @@ fn growth(rt: HostRuntime) -> Result<(), Fail> {
         Err(_) => assert!(rt; false),
     }
     let exchange = [[1].to_vec(alloc)?, [0].to_vec(alloc)?];
-    match growth_of(alloc, &Matrix::from_columns(alloc, 2, &exchange)?)? {
+    match growth_of(
+        alloc,
+        &Matrix::from_columns(alloc, 2, &exchange)?,
+        Series::First,
+    )? {
         Ok(_) => assert!(rt; false),
         Err(line) => assert!(rt; line == TrackLine::NotPrimitive),
     }
@@ -58,7 +67,11 @@ fn growth(rt: HostRuntime) -> Result<(), Fail> {
 fn no_growth(rt: HostRuntime) -> Result<(), Fail> {
     let alloc = rt.alloc();
     let column = [[0].to_vec(alloc)?];
-    match growth_of(alloc, &Matrix::from_columns(alloc, 1, &column)?)? {
+    match growth_of(
+        alloc,
+        &Matrix::from_columns(alloc, 1, &column)?,
+        Series::First,
+    )? {
         Ok(_) => assert!(rt; false),
         Err(line) => assert!(rt; line == TrackLine::NoBounds),
     }
@@ -75,7 +88,7 @@ fn tried(
     let s = builtin(alloc, "S_1_1")?;
     let path = read_word(alloc, &s, word)?;
     let track = Track::from_list(alloc, &s.atlas, s.atlas.base(), left_out)?;
-    Ok(try_track(alloc, &s.atlas, &track, &path, 1, &[])?)
+    Ok(try_track(alloc, &s.atlas, &track, &path, Series::First, 1, &[])?)
 }
 
 /// The line, if there is one.

@@ -1,5 +1,5 @@
 //! The phases of the search for a verdict, one after another.
-ghost use Rattle.std.specs.Prelude.{◌≡◌, IfOk, IfSome};
+ghost use Rattle.std.specs.Prelude.{◌≡◌, max, IfOk, IfSome};
 ghost use Rattle.tri_atlas.specs.Arena.{Grows, triangulation};
 ghost use Rattle.tri_atlas.specs.Paths.{moves_of};
 ghost use Rattle.multicurve_cert.specs.CurveAnswers.{AreAllFailing};
@@ -7,16 +7,19 @@ ghost use Rattle.surface_lib.specs.Surfaces.{IsSurface, IsLoop};
 ghost use Rattle.cert_text.specs.CertificateLaws.{IsMeant};
 ghost use Rattle.cert_text.specs.Certificates.{seen};
 ghost use Rattle.cert_text.specs.Holds.{HoldsFor};
+ghost use Rattle.verdict_plan.specs.AllCandidates.{AreFailedCurves, AreFailedTracks};
 ghost use Rattle.verdict_plan.specs.Budgets.{IsWithinLimits};
-ghost use Rattle.verdict_plan.specs.TrackAnswers.{AreNoTracks};
 ghost use Rattle.verdict_plan.specs.Verdicts.{HasNoOrder, IsVerdict};
+ghost use Rattle.verdict_plan.specs.inside.OpenStages.{AreFurtherStages};
 ghost use Rattle.verdict_plan.specs.inside.Tried.{IsPowerLog, IsSound};
 
+use crate::all_candidates::{further_curves, further_stages, search_all};
 use crate::budget::Budget;
 use crate::certificates::{reducible, unknown};
 use crate::power_phase::{PowerLog, Powers, follow_powers, try_powers};
-use crate::track_search::{Tracks, search_tracks};
+use crate::track_search::Tracks;
 use cert_text::{Certificate, TrackLine, certificate_laws};
+use cycle_stages::Stage;
 use edge_coords::CurveLine;
 use ideal_tri::Memory;
 use multicurve_cert::{Curves, power_laws, search};
@@ -56,8 +59,8 @@ pub fn classify(
     }
 }
 
-/// What the candidates for a fixed multicurve give, and those for a carried track after them, where
-/// the powers gave no verdict.
+/// What the first candidates for a fixed multicurve give, and all candidates behind them, where the
+/// powers gave no verdict.
 fn try_curves(
     alloc: Global,
     atlas: &mut Atlas,
@@ -81,12 +84,13 @@ fn try_curves(
     power_laws(atlas, word);
     match search(alloc, atlas, word, budget.curves)? {
         Curves::Found { coords, .. } => Ok(reducible(alloc, &coords)?),
-        Curves::None { log: curves } => try_tracks(alloc, atlas, word, budget, log, curves),
+        Curves::None { log: curves } => try_further(alloc, atlas, word, budget, log, curves),
     }
 }
 
-/// What the candidates for a carried track give, where the powers and the multicurves gave no verdict.
-fn try_tracks(
+/// What the further candidates give, and the first ones for a carried track, where the first ones for
+/// a multicurve fail.
+fn try_further(
     alloc: Global,
     atlas: &mut Atlas,
     word: &Path,
@@ -108,11 +112,56 @@ fn try_tracks(
 {
     let _ = atlas.base();
     atlas_laws();
+    let stages = further_stages(alloc, atlas, word, greater_budget(budget))?;
+    try_stages(alloc, atlas, word, budget, &stages, log, curves)
+}
+
+/// The greater of the budgets for multicurves and for tracks.
+fn greater_budget(budget: &Budget) -> u32
+    ensures { result ≡ max budget.now.curves budget.now.tracks }
+{
+    budget.curves.max(budget.tracks)
+}
+
+/// What the further candidates for a multicurve give, which are made of these stages, and all those
+/// for a carried track.
+fn try_stages(
+    alloc: Global,
+    atlas: &mut Atlas,
+    word: &Path,
+    budget: &Budget,
+    stages: &[Stage],
+    log: Option<PowerLog>,
+    curves: Vec<CurveLine>,
+) -> Result<Certificate, Memory>
+    requires closed { IsLoop atlas.old word.now }
+    requires budget { IsWithinLimits budget.now }
+    requires stages { AreFurtherStages atlas.old word.now (max budget.now.curves budget.now.tracks)
+        stages.now }
+    requires no_order { HasNoOrder (triangulation atlas.old 0) (moves_of atlas.old word.now)
+        budget.now.powers }
+    requires log { IfSome log (IsPowerLog (triangulation atlas.old 0)
+        (moves_of atlas.old word.now) budget.now.powers) }
+    requires curves { AreAllFailing (triangulation atlas.old 0) (moves_of atlas.old word.now)
+        budget.now.curves curves.items }
+    ensures sound { IfOk result (IsSound (triangulation atlas.old 0) (moves_of atlas.old word.now)
+        budget.now) }
+    ensures grows { Grows atlas.old atlas.new }
+{
+    let _ = atlas.base();
+    atlas_laws();
     certificate_laws();
-    match search_tracks(alloc, atlas, word, budget.tracks)? {
-        Tracks::Found { pa, .. } => Ok(Certificate::PseudoAnosov(pa)),
-        Tracks::None { log: tracks } => {
-            without_verdict(alloc, atlas, word, budget, log, curves, tracks)
+    power_laws(atlas, word);
+    match further_curves(alloc, atlas, word, budget.curves, stages, curves)? {
+        Curves::Found { coords, .. } => Ok(reducible(alloc, &coords)?),
+        Curves::None { log: curves } => {
+            let found = search_all(alloc, atlas, word, budget.tracks, stages)?;
+            match found {
+                Tracks::Found { pa, .. } => Ok(Certificate::PseudoAnosov(pa)),
+                Tracks::None { log: tracks } => {
+                    without_verdict(alloc, atlas, word, budget, log, curves, tracks)
+                }
+            }
         }
     }
 }
@@ -134,9 +183,9 @@ fn without_verdict(
         budget.now.powers }
     requires log { IfSome log (IsPowerLog (triangulation atlas.now 0)
         (moves_of atlas.now word.now) budget.now.powers) }
-    requires curves { AreAllFailing (triangulation atlas.now 0) (moves_of atlas.now word.now)
+    requires curves { AreFailedCurves (triangulation atlas.now 0) (moves_of atlas.now word.now)
         budget.now.curves curves.items }
-    requires tracks { AreNoTracks (triangulation atlas.now 0) (moves_of atlas.now word.now)
+    requires tracks { AreFailedTracks (triangulation atlas.now 0) (moves_of atlas.now word.now)
         budget.now.tracks tracks.items }
     ensures { IfOk result (IsSound (triangulation atlas.now 0) (moves_of atlas.now word.now)
         budget.now) }

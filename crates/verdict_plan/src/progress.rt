@@ -5,12 +5,12 @@
 ghost use Rattle.std.specs.Prelude.{◌≤◌, ℕ, IfOk, IfErr};
 ghost use Rattle.tri_atlas.specs.Paths.{MovePath};
 ghost use Rattle.surface_lib.specs.Surfaces.{IsLoop};
-ghost use Rattle.verdict_plan.specs.inside.Staged.{IsKept};
+ghost use Rattle.cycle_stages.specs.KeptStages.{IsKept};
 ghost use Rattle.verdict_plan.specs.inside.Sites.{IsBackWay, IsPastFrom, IsProgress, IsProgressAt};
 ghost use Rattle.verdict_plan.specs.inside.Sites.{IsTrackAt};
 
-use crate::stages::Stage;
 use crate::ways::{Way, go_on, still};
+use cycle_stages::Stage;
 use ideal_tri::Memory;
 use std::alloc::Global;
 use train_track::Track;

@@ -8,13 +8,13 @@ ghost use Rattle.tri_atlas.specs.Arena.{Grows};
 ghost use Rattle.tri_atlas.specs.Paths.{MovePath};
 ghost use Rattle.edge_coords.specs.Coordinates.{AreCoordinatesIn};
 ghost use Rattle.surface_lib.specs.Surfaces.{IsLoop};
-ghost use Rattle.verdict_plan.specs.inside.Staged.{IsKept};
+ghost use Rattle.cycle_stages.specs.KeptStages.{IsKept};
 ghost use Rattle.verdict_plan.specs.inside.Sites.{IsStanding, IsSite, IsFirstPower, IsNextDepth};
 
 use crate::progress::{Progress, flips_back};
-use crate::stages::{Stage, deepen, first_stage};
 use crate::track_tests::track_of;
 use cert_text::TrackLine;
+use cycle_stages::{Stage, deepen, first_stage};
 use edge_coords::Coords;
 use ideal_tri::Memory;
 use std::alloc::Global;

@@ -1,13 +1,17 @@
 //! The transition matrix of a carried track, and its growth.
 ghost use Rattle.std.specs.Prelude.{◌≡◌, ◌<◌, ◌≤◌, ◌*◌, ℕ, length, IfOk, IfErr, IfSome, IfNone};
+ghost use Rattle.std.specs.Prelude.{MatchOption};
 ghost use Rattle.train_track.specs.Branches.{words_of};
+ghost use Rattle.transition_matrix.specs.Bounds.{IsBounds};
 ghost use Rattle.transition_matrix.specs.Matrices.{IsLeastExponent, IsPositivePower};
 ghost use Rattle.carry_map.specs.Iterates.{IsTransition};
+ghost use Rattle.verdict_plan.specs.TrackTests.{HasNoGrowthIn, IsRuledIn};
 ghost use Rattle.verdict_plan.specs.inside.Trials.{CanBeCounted, ArePassColumns, GrowsSo, GrowsNot};
 
+use crate::series::Series;
 use carry_map::CarryMap;
 use cert_text::TrackLine;
-use growth_bounds::{GrowthBounds, bounds};
+use growth_bounds::{GrowthBounds, bounds, wide_bounds};
 use ideal_tri::Memory;
 use std::alloc::Global;
 use train_track::{Track, track_laws};
@@ -54,19 +58,41 @@ fn columns(alloc: Global, track: &Track, c: &CarryMap) -> Result<Vec<Vec<u32>>, 
     Ok(columns)
 }
 
-/// The growth of a matrix, or which test fails.
-pub(crate) fn growth_of(alloc: Global, m: &Matrix) -> Result<Result<Growth, TrackLine>, Memory>
+/// The growth of a matrix, with bounds by the rule of the series, or which test fails.
+pub(crate) fn growth_of(
+    alloc: Global,
+    m: &Matrix,
+    series: Series,
+) -> Result<Result<Growth, TrackLine>, Memory>
     requires { 0 < m.now.size }
-    ensures found { IfOk result (λ r. IfOk r (GrowsSo m.now)) }
-    ensures line { IfOk result (λ r. IfErr r (GrowsNot m.now)) }
+    ensures found { IfOk result (λ r. IfOk r (GrowsSo series m.now)) }
+    ensures line { IfOk result (λ r. IfErr r (GrowsNot series m.now)) }
 {
     let Some(exponent) = exponent(alloc, m)? else {
         return Ok(Err(TrackLine::NotPrimitive));
     };
-    match bounds(alloc, m) {
+    match bounds_of(alloc, m, series) {
         Ok(Some(bounds)) => Ok(Ok(Growth { exponent, bounds })),
         Ok(None) => Ok(Err(TrackLine::NoBounds)),
         Err(_) => Err(Memory),
+    }
+}
+
+/// The bounds by the rule of the series, if it gives any.
+fn bounds_of(
+    alloc: Global,
+    m: &Matrix,
+    series: Series,
+) -> Result<Option<GrowthBounds>, transition_matrix::Memory>
+    requires { 0 < m.now.size }
+    ensures rule { IfOk result (λ found. MatchOption found (HasNoGrowthIn series m.now)
+        (IsRuledIn series m.now)) }
+    ensures bounds { IfOk result (λ found. IfSome found (λ b. IsBounds m.now b.u.items b.low
+        b.high)) }
+{
+    match series {
+        Series::First => bounds(alloc, m),
+        Series::Further => wide_bounds(alloc, m),
     }
 }
 

@@ -1,4 +1,4 @@
-//! The candidates for a carried train track, tried in order.
+//! The first candidates for a carried train track, tried in order.
 //!
 //! One candidate after another of a cycle is the next power of the word at the same stage, or the
 //! first at the next stage. The cycles take turns, so the sites of the last candidates wait in a
@@ -9,7 +9,7 @@ ghost use Rattle.tri_atlas.specs.Paths.{moves_of};
 ghost use Rattle.train_track.specs.Branches.{words_of};
 ghost use Rattle.multicurve_cert.specs.Cycles.{AreCycles};
 ghost use Rattle.surface_lib.specs.Surfaces.{IsLoop};
-ghost use Rattle.verdict_plan.specs.TrackAnswers.{HoldsWhereFound, IsTracksAnswer, track_kinds};
+ghost use Rattle.verdict_plan.specs.FirstTracks.{HoldsWhereFound, IsFirstTracksAnswer, track_kinds};
 ghost use Rattle.verdict_plan.specs.inside.Sites.{AreSites, IsSiteOf};
 ghost use Rattle.verdict_plan.specs.inside.Turns.{AreOtherSites, IsFollowing, IsSomeSite};
 
@@ -17,6 +17,7 @@ use crate::sites::{Site, first_site, next_depth};
 use crate::track_tests::pass_law;
 use crate::trials::{Trial, try_site};
 use cert_text::{Pa, TrackLine};
+use cycle_stages::stage_laws;
 use free_groupoid::Walk;
 use ideal_tri::Memory;
 use multicurve_cert::{cycle_coords, cycles};
@@ -47,18 +48,18 @@ pub enum Tracks {
     },
 }
 
-/// Tries the candidates for a train track that a power of the word carries into itself, in order,
-/// those with numbers below the budget: the first that passes all tests, or for each the first test
-/// that it fails (Penner and Harer). The word runs from the base to the base. The triangulations at
-/// the stages are added to the atlas.
-pub fn search_tracks(
+/// Tries the first candidates for a train track that a power of the word carries into itself, in
+/// order, those with numbers below the budget: the first that passes all tests, or for each the first
+/// test that it fails (Penner and Harer). The word runs from the base to the base. The triangulations
+/// at the stages are added to the atlas.
+pub(crate) fn search_first(
     alloc: Global,
     atlas: &mut Atlas,
     word: &Path,
     budget: u32,
 ) -> Result<Tracks, Memory>
     requires closed { IsLoop atlas.old word.now }
-    ensures answer { IfOk result (IsTracksAnswer (triangulation atlas.old 0)
+    ensures answer { IfOk result (IsFirstTracksAnswer (triangulation atlas.old 0)
         (moves_of atlas.old word.now) budget) }
     ensures holds { IfOk result (HoldsWhereFound (triangulation atlas.old 0)
         (moves_of atlas.old word.now)) }
@@ -80,7 +81,7 @@ fn search_along(
     requires closed { IsLoop atlas.old word.now }
     requires cycles { AreCycles (triangulation atlas.old 0) (words_of cycles.now) }
     requires some { 0 < length cycles.now }
-    ensures answer { IfOk result (IsTracksAnswer (triangulation atlas.old 0)
+    ensures answer { IfOk result (IsFirstTracksAnswer (triangulation atlas.old 0)
         (moves_of atlas.old word.now) budget) }
     ensures holds { IfOk result (HoldsWhereFound (triangulation atlas.old 0)
         (moves_of atlas.old word.now)) }
@@ -128,6 +129,7 @@ fn next_site(
 {
     let _ = atlas.base();
     atlas_laws();
+    stage_laws();
     if sites.len() < cycles.len() {
         let w = cycle_coords(atlas, &cycles[n]);
         return first_site(alloc, atlas, word, &w);

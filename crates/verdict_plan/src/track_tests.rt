@@ -1,19 +1,27 @@
 //! The tests of a candidate for a train track that a path carries into itself.
-ghost use Rattle.std.specs.Prelude.{◌≡◌, ◌≤◌, ℕ, pos, List, IfOk, IfErr};
+ghost use Rattle.std.specs.Prelude.{◌≡◌, ◌≤◌, ℕ, pos, List, All, IfOk, IfErr};
 ghost use Rattle.tri_atlas.specs.Arena.{triangulation};
 ghost use Rattle.tri_atlas.specs.Moves.{Move};
 ghost use Rattle.tri_atlas.specs.Paths.{MovePath, moves_of};
 ghost use Rattle.edge_coords.specs.Coordinates.{AreCoordinatesIn};
-ghost use Rattle.train_track.specs.Branches.{IsTrackIn};
+ghost use Rattle.free_groupoid.specs.GroupoidMaps.{substitution, vertex_image};
+ghost use Rattle.free_groupoid.specs.Walks.{IsWalkOn};
+ghost use Rattle.train_track.specs.Branches.{IsTrackIn, words_of};
 ghost use Rattle.train_track.specs.Refusals.{free_corners};
+ghost use Rattle.carry_map.specs.AnchorAnswers.{IsMapOnTrack};
+ghost use Rattle.carry_map.specs.CarriedMaps.{IsCarried};
+ghost use Rattle.carry_map.specs.CarryingWalks.{carrying_of};
 ghost use Rattle.cert_text.specs.Certificates.{track_seen};
+ghost use Rattle.cert_text.specs.Limits.{letter_cap};
 ghost use Rattle.verdict_plan.specs.TrackTests.{IsTrackLine};
 ghost use Rattle.verdict_plan.specs.inside.Trials.{IsCarriedAlong, IsMapAlong, IsPathOnTrack};
-ghost use Rattle.verdict_plan.specs.inside.Trials.{IsSoundPass, PassLaw};
+ghost use Rattle.verdict_plan.specs.inside.Trials.{IsAnswerIn, IsRefusedIn, IsSoundPass, PassLaw};
+ghost use Rattle.verdict_plan.specs.declared.series.Series.{Series as AnySeries};
 
+use crate::series::Series;
 use crate::track_certificate::pa;
 use crate::track_growth::{growth_of, transition};
-use carry_map::{AnchorError, CarryMap, agreement_laws, anchor};
+use carry_map::{AnchorError, CarryMap, agreement_laws, anchor, middle_anchor};
 use cert_text::{Pa, TrackLine};
 use edge_coords::Coords;
 use free_groupoid::{Map, MapError, groupoid_laws, periodic_laws};
@@ -37,8 +45,8 @@ pub(crate) fn track_of(
         × (track.left_out
         ≡ free_corners (triangulation atlas.now coords.now.tri) coords.now.numbers))) }
     ensures here { IfOk result (λ r. IfOk r (IsTrackIn atlas.now)) }
-    ensures refused { IfOk result (λ r. IfErr r (λ line. (path : List Move)
-        → IsTrackLine (triangulation atlas.now coords.now.tri) path
+    ensures refused { IfOk result (λ r. IfErr r (λ line. (series : AnySeries) (path : List Move)
+        → IsTrackLine series (triangulation atlas.now coords.now.tri) path
         (free_corners (triangulation atlas.now coords.now.tri) coords.now.numbers) line)) }
 {
     match Track::from_coords(alloc, atlas, coords) {
@@ -58,20 +66,22 @@ pub(crate) fn try_track(
     atlas: &Atlas,
     track: &Track,
     path: &Path,
+    series: Series,
     power: u32,
     flips: &[u32],
 ) -> Result<Result<Pa, TrackLine>, Memory>
     requires { IsPathOnTrack atlas.now track.now path.now }
-    ensures passes { IfOk result (λ r. IfOk r (λ p. IsSoundPass
+    ensures passes { IfOk result (λ r. IfOk r (λ p. IsSoundPass series
         (triangulation atlas.now track.now.tri) (moves_of atlas.now path.now) track.now.left_out
         (track_seen p))) }
     ensures power { IfOk result (λ r. IfOk r (λ p. p.power ≡ power)) }
     ensures flips { IfOk result (λ r. IfOk r (λ p. p.flips.items ≡ flips.now)) }
-    ensures line { IfOk result (λ r. IfErr r (IsTrackLine (triangulation atlas.now track.now.tri)
+    ensures line { IfOk result (λ r. IfErr r (IsTrackLine series
+        (triangulation atlas.now track.now.tri)
         (moves_of atlas.now path.now) track.now.left_out)) }
 {
     match map_of(alloc, atlas, track, path)? {
-        Ok(psi) => try_map(alloc, atlas, track, &psi, power, flips),
+        Ok(psi) => try_map(alloc, atlas, track, &psi, series, power, flips),
         Err(line) => Ok(Err(line)),
     }
 }
@@ -82,29 +92,30 @@ pub(crate) fn try_map(
     atlas: &Atlas,
     track: &Track,
     psi: &Map,
+    series: Series,
     power: u32,
     flips: &[u32],
 ) -> Result<Result<Pa, TrackLine>, Memory>
     requires { (path : MovePath) × IsMapAlong atlas.now track.now path psi.now }
     ensures passes { IfOk result (λ r. IfOk r (λ p. (path : MovePath)
         → IsMapAlong atlas.now track.now path psi.now
-        → IsSoundPass (triangulation atlas.now track.now.tri) (moves_of atlas.now path)
+        → IsSoundPass series (triangulation atlas.now track.now.tri) (moves_of atlas.now path)
         track.now.left_out (track_seen p))) }
     ensures power { IfOk result (λ r. IfOk r (λ p. p.power ≡ power)) }
     ensures flips { IfOk result (λ r. IfOk r (λ p. p.flips.items ≡ flips.now)) }
     ensures line { IfOk result (λ r. IfErr r (λ line. (path : MovePath)
         → IsMapAlong atlas.now track.now path psi.now
-        → IsTrackLine (triangulation atlas.now track.now.tri) (moves_of atlas.now path)
+        → IsTrackLine series (triangulation atlas.now track.now.tri) (moves_of atlas.now path)
         track.now.left_out line)) }
 {
     let _ = atlas.base();
     label_laws();
-    let c = match carried(alloc, atlas, track, psi)? {
+    let c = match carried(alloc, atlas, track, psi, series)? {
         Ok(c) => c,
         Err(line) => return Ok(Err(line)),
     };
     let m = transition(alloc, track, &c)?;
-    match growth_of(alloc, &m)? {
+    match growth_of(alloc, &m, series)? {
         Ok(growth) => {
             let flips = Vec::from_slice(alloc, flips)?;
             Ok(Ok(pa(alloc, track, &c, &m, growth, power, flips)?))
@@ -113,33 +124,59 @@ pub(crate) fn try_map(
     }
 }
 
-/// How the map of a path carries a track, by the anchor rule, or which test fails.
+/// How the map of a path carries a track, by the anchor rule of the series, or which test fails.
 fn carried(
     alloc: Global,
     atlas: &Atlas,
     track: &Track,
     psi: &Map,
+    series: Series,
 ) -> Result<Result<CarryMap, TrackLine>, Memory>
     requires { (path : MovePath) × IsMapAlong atlas.now track.now path psi.now }
     ensures found { IfOk result (λ r. IfOk r (λ c. (path : MovePath)
         → IsMapAlong atlas.now track.now path psi.now
-        → IsCarriedAlong (triangulation atlas.now track.now.tri) (moves_of atlas.now path) track.now
-        c)) }
+        → IsCarriedAlong series (triangulation atlas.now track.now.tri) (moves_of atlas.now path)
+        track.now c)) }
     ensures line { IfOk result (λ r. IfErr r (λ line. (path : MovePath)
         → IsMapAlong atlas.now track.now path psi.now
-        → IsTrackLine (triangulation atlas.now track.now.tri) (moves_of atlas.now path)
+        → IsTrackLine series (triangulation atlas.now track.now.tri) (moves_of atlas.now path)
         track.now.left_out line)) }
 {
     let _ = atlas.base();
     map_laws();
     groupoid_laws();
     agreement_laws();
-    match anchor(alloc, atlas, track, psi, LETTER_CAP) {
+    match anchored(alloc, atlas, track, psi, series) {
         Ok(c) => Ok(Ok(c)),
         Err(AnchorError::NoCommonPart(e)) => Ok(Err(TrackLine::NoCommon { n: number_of(e) })),
         Err(AnchorError::Illegal(n)) => Ok(Err(TrackLine::Illegal { n })),
         Err(AnchorError::CapPassed { letters }) => Ok(Err(TrackLine::PathsCap { n: letters })),
         Err(AnchorError::Memory) => Err(Memory),
+    }
+}
+
+/// What the anchor rule of the series answers.
+fn anchored(
+    alloc: Global,
+    atlas: &Atlas,
+    track: &Track,
+    psi: &Map,
+    series: Series,
+) -> Result<CarryMap, AnchorError>
+    requires { IsMapOnTrack atlas.now track.now psi.now }
+    ensures accepted { IfOk result (IsAnswerIn series (triangulation atlas.now track.now.tri)
+        track.now psi.now letter_cap) }
+    ensures refused { IfErr result (IsRefusedIn series (triangulation atlas.now track.now.tri)
+        track.now psi.now letter_cap) }
+    ensures walks { IfOk result (λ c. All (IsWalkOn (triangulation atlas.now track.now.tri))
+        c.images) }
+    ensures carried { IfOk result (λ c. IsCarried (triangulation atlas.now track.now.tri)
+        track.now.left_out (words_of track.now.branches) (substitution psi.now.images)
+        (vertex_image psi.now) (carrying_of c)) }
+{
+    match series {
+        Series::First => anchor(alloc, atlas, track, psi, LETTER_CAP),
+        Series::Further => middle_anchor(alloc, atlas, track, psi, LETTER_CAP),
     }
 }
 
@@ -160,8 +197,9 @@ fn map_of(
 ) -> Result<Result<Map, TrackLine>, Memory>
     requires { IsPathOnTrack atlas.now track.now path.now }
     ensures found { IfOk result (λ r. IfOk r (IsMapAlong atlas.now track.now path.now)) }
-    ensures line { IfOk result (λ r. IfErr r (IsTrackLine (triangulation atlas.now track.now.tri)
-        (moves_of atlas.now path.now) track.now.left_out)) }
+    ensures line { IfOk result (λ r. IfErr r (λ line. (series : AnySeries)
+        → IsTrackLine series (triangulation atlas.now track.now.tri) (moves_of atlas.now path.now)
+        track.now.left_out line)) }
 {
     let _ = atlas.base();
     periodic_laws();

@@ -1,21 +1,22 @@
-//! What the tests give for a candidate at its site.
+//! What the tests give for one of the first candidates at its site.
 ghost use Rattle.std.specs.Prelude.{◌≡◌, ℕ, List, IfOk, OnOk, IfErr};
 ghost use Rattle.tri_atlas.specs.Arena.{triangulation};
 ghost use Rattle.tri_atlas.specs.Paths.{moves_of};
 ghost use Rattle.surface_lib.specs.Surfaces.{IsLoop};
+ghost use Rattle.cycle_stages.specs.KeptStages.{IsKept};
 ghost use Rattle.verdict_plan.specs.inside.Sites.{IsBackWay, IsProgress, IsProgressAt, IsTrackAt};
 ghost use Rattle.verdict_plan.specs.inside.Sites.{IsStanding};
-ghost use Rattle.verdict_plan.specs.inside.Staged.{IsKept};
 ghost use Rattle.verdict_plan.specs.inside.Known.{AreKnown};
 ghost use Rattle.verdict_plan.specs.inside.Turns.{IsOutcomeAt, IsTrial};
 
 use crate::known::{Known, learn, line_of};
 use crate::progress::{Progress, taken_on};
+use crate::series::Series;
 use crate::sites::{Site, Standing};
-use crate::stages::Stage;
 use crate::track_tests::try_map;
 use crate::ways::{Way, copied, go_on};
 use cert_text::{Pa, TrackLine};
+use cycle_stages::Stage;
 use free_groupoid::periodic_laws;
 use ideal_tri::Memory;
 use std::alloc::Global;
@@ -149,7 +150,15 @@ fn try_way(
     periodic_laws();
     let way = copied(alloc, atlas, way)?;
     match go_on(atlas, way, &stage.path)? {
-        Ok(way) => try_map(alloc, atlas, track, &way.map, power, &stage.edges),
+        Ok(way) => try_map(
+            alloc,
+            atlas,
+            track,
+            &way.map,
+            Series::First,
+            power,
+            &stage.edges,
+        ),
         Err(n) => Ok(Err(TrackLine::Cap { n })),
     }
 }

@@ -3,8 +3,9 @@
 use Rattle.std.specs.Prelude.{◌≡◌, ◌<◌, ℕ, List, [], Bool, true, length, slice_index_or}
 use Rattle.tri_atlas.specs.Arena.{Arena, triangulation}
 use Rattle.tri_atlas.specs.Moves.{Move}
-use Rattle.edge_coords.specs.Coordinates.{Coordinates, AreCoordinatesIn}
+use Rattle.edge_coords.specs.Coordinates.{Coordinates}
 use Rattle.multicurve_cert.specs.Candidates.{image_number, Overflows}
+use Rattle.multicurve_cert.specs.LastTests.{AreAtBase}
 
 abbrev pub coords_at : List Coordinates → ℕ → Coordinates
 coords_at list k = slice_index_or list k (record { tri = 0; numbers = [] })
@@ -12,11 +13,6 @@ coords_at list k = slice_index_or list k (record { tri = 0; numbers = [] })
 -- the vector that a list of images begins with
 abbrev pub first_of : List Coordinates → List ℕ
 first_of list = (coords_at list 0).numbers
-
--- coordinates at the base
-pub record AreAtBase (arena : Arena) (c : Coordinates) : Type 0 where
-  pub coordinates : AreCoordinatesIn arena c
-  pub base : c.tri ≡ 0
 
 -- c is the image under the n-th power, and no number reaches the limit on its way
 pub record IsImageNumber (arena : Arena) (moves : List Move) (w : List ℕ) (n : ℕ) (c : Coordinates)

@@ -11,16 +11,17 @@ use Rattle.multicurve_cert.specs.CurveAnswers.{vector_of}
 use Rattle.cert_text.specs.PseudoAnosov.{conjugated}
 use Rattle.cert_text.specs.declared.lines.TrackLine.{TrackLine}
 use Rattle.cert_text.specs.declared.lines.TrackLine.TheVariants.{Cap}
-use Rattle.verdict_plan.specs.TrackAnswers.{depth_of, power_of}
+use Rattle.verdict_plan.specs.FirstTracks.{depth_of, power_of}
 use Rattle.verdict_plan.specs.TrackTests.{IsTrackLine}
-use Rattle.verdict_plan.specs.inside.Staged.{there, IsKept, IsStageIn}
+use Rattle.cycle_stages.specs.KeptStages.{there, IsKept, IsStageIn}
 use Rattle.verdict_plan.specs.inside.Ways.{IsWay}
 use Rattle.verdict_plan.specs.declared.progress.Progress.{Progress}
 use Rattle.verdict_plan.specs.declared.progress.Progress.TheVariants.{Taken, Past}
+use Rattle.verdict_plan.specs.declared.series.Series.TheVariants.{First}
 use Rattle.verdict_plan.specs.declared.sites.Site.{Site}
 use Rattle.verdict_plan.specs.declared.sites.Standing.{Standing}
 use Rattle.verdict_plan.specs.declared.sites.Standing.TheVariants.{Failed, Open}
-use Rattle.verdict_plan.specs.declared.stages.Stage.{Stage}
+use Rattle.cycle_stages.specs.declared.stages.Stage.{Stage}
 use Rattle.verdict_plan.specs.declared.ways.Way.{Way}
 
 -- ---- one stage
@@ -37,7 +38,7 @@ path_at arena word s power =
 -- the candidate with this power has this line
 abbrev pub IsLineWith : Arena → MovePath → Stage → ℕ → TrackLine → Type 0
 IsLineWith arena word s power line =
-    IsTrackLine (there arena s) (path_at arena word s power) (corners_at arena s) line
+    IsTrackLine First (there arena s) (path_at arena word s power) (corners_at arena s) line
 
 -- the track of the stage
 pub record IsTrackAt (arena : Arena) (s : Stage) (track : TrainTrack) : Type 0 where

@@ -17,19 +17,24 @@ use Rattle.train_track.specs.Passes.{Pass, ArePassesOf, IsFromSwitchToSwitch}
 use Rattle.train_track.specs.Tracks.{ArePlaced}
 use Rattle.transition_matrix.specs.Bounds.{IsBounds}
 use Rattle.transition_matrix.specs.Matrices.{Square, IsLeastExponent, IsPositivePower}
-use Rattle.growth_bounds.specs.Rule.{Grows, IsRuledBy}
-use Rattle.carry_map.specs.AnchorAnswers.{IsMapOnTrack, letters_together}
+use Rattle.carry_map.specs.AnchorAnswers.{IsAnchorAnswer, IsMapOnTrack, IsRefusedFor}
+use Rattle.carry_map.specs.AnchorAnswers.{letters_together}
 use Rattle.carry_map.specs.Anchors.{Place}
 use Rattle.carry_map.specs.CarriedMaps.{IsCarried}
 use Rattle.tri_atlas.specs.FlipPaths.{CanBeFlipped}
 use Rattle.carry_map.specs.CarryingWalks.{CarryingWalks as Carried, carrying_of as carrying}
+use Rattle.carry_map.specs.MiddleAnchors.{IsMiddleAnswer, IsMiddleRefusal}
+use Rattle.carry_map.specs.declared.carry.AnchorError.{AnchorError}
 use Rattle.cert_text.specs.Certificates.{CarriedTrack, rows_of}
 use Rattle.cert_text.specs.Limits.{exponent_limit, flip_limit, letter_cap, power_limit}
 use Rattle.cert_text.specs.PseudoAnosov.{carrying_of, matrix_of, track_path, track_triangles}
 use Rattle.cert_text.specs.PseudoAnosov.{IsPseudoAnosovCertificate}
 use Rattle.cert_text.specs.declared.lines.TrackLine.{TrackLine}
 use Rattle.cert_text.specs.declared.lines.TrackLine.TheVariants.{NotPrimitive, NoBounds}
-use Rattle.verdict_plan.specs.TrackTests.{IsFitting, IsPassing, train_paths}
+use Rattle.verdict_plan.specs.TrackTests.{HasNoGrowthIn, IsFitting, IsPassing, IsRuledIn}
+use Rattle.verdict_plan.specs.TrackTests.{train_paths}
+use Rattle.verdict_plan.specs.declared.series.Series.{Series}
+use Rattle.verdict_plan.specs.declared.series.Series.TheVariants.{First, Further}
 use Rattle.verdict_plan.specs.declared.track_growth.Growth.{Growth}
 
 -- ---- the map
@@ -51,13 +56,24 @@ pub record IsMapAlong (arena : Arena) (track : TrainTrack) (path : MovePath) (ps
 
 -- ---- the carrying
 
+-- what the rule for anchors answers
+abbrev pub IsAnswerIn : Series → List (List ℤ) → TrainTrack → GroupoidMap → ℕ → Carried → Type 0
+IsAnswerIn First triples track psi cap c = IsAnchorAnswer triples track psi cap c
+IsAnswerIn Further triples track psi cap c = IsMiddleAnswer triples track psi cap c
+
+-- or why it has no answer
+abbrev pub IsRefusedIn : Series → List (List ℤ) → TrainTrack → GroupoidMap → ℕ → AnchorError
+    → Type 0
+IsRefusedIn First triples track psi cap e = IsRefusedFor triples track psi cap e
+IsRefusedIn Further triples track psi cap e = IsMiddleRefusal triples track psi cap e
+
 -- the map of the path carries the track so, by the anchors of its switches
-pub record IsCarriedAlong (triples : List (List ℤ)) (path : List Move) (track : TrainTrack)
-    (c : Carried) : Type 0 where
+pub record IsCarriedAlong (series : Series) (triples : List (List ℤ)) (path : List Move)
+    (track : TrainTrack) (c : Carried) : Type 0 where
   pub on : IsTrackOn triples track
   pub walks : All (IsWalkOn triples) c.images
   pub anchors : List Place
-  pub fitting : IsFitting triples path track.left_out (words_of track.branches) anchors
+  pub fitting : IsFitting series triples path track.left_out (words_of track.branches) anchors
   pub few_between : letters_together (map (λ p. p.connect) anchors) ≤ letter_cap
   pub few_along : letters_together (words_of c.images) ≤ letter_cap
   pub to : c.to ≡ map (λ p. p.label) anchors
@@ -96,18 +112,18 @@ pub record AreRows (m : Square) (rows : List (List ℕ)) : Type 0 where
 -- ---- its growth
 
 -- the least exponent, within the limit, and the bounds of the rule
-pub record GrowsSo (m : Square) (growth : Growth) : Type 0 where
+pub record GrowsSo (series : Series) (m : Square) (growth : Growth) : Type 0 where
   pub exponent : IsLeastExponent m growth.exponent
   pub within_limit : growth.exponent ≤ exponent_limit
-  pub ruled : IsRuledBy m growth.bounds
+  pub ruled : IsRuledIn series m growth.bounds
   pub bounds : IsBounds m growth.bounds.u.items growth.bounds.low growth.bounds.high
 
 -- there is no exponent within the limit, or there is one and the rule gives no bounds
-abbrev pub GrowsNot : Square → TrackLine → Type 0
-GrowsNot m NotPrimitive = (k : ℕ) → 0 < k → k ≤ exponent_limit → ¬ IsPositivePower m k
-GrowsNot m NoBounds = ((k : ℕ) × IsLeastExponent m k × (k ≤ exponent_limit))
-    × ((j : ℕ) → 4 ≤ j → j ≤ 64 → ¬ Grows m j)
-GrowsNot m _ = ⊥
+abbrev pub GrowsNot : Series → Square → TrackLine → Type 0
+GrowsNot series m NotPrimitive = (k : ℕ) → 0 < k → k ≤ exponent_limit → ¬ IsPositivePower m k
+GrowsNot series m NoBounds =
+    ((k : ℕ) × IsLeastExponent m k × (k ≤ exponent_limit)) × HasNoGrowthIn series m
+GrowsNot series m _ = ⊥
 
 -- ---- the certificate
 
@@ -126,9 +142,9 @@ pub record Tells (track : TrainTrack) (carried : Carried) (m : Square) (growth :
   pub high : c.high ≡ growth.bounds.high
 
 -- the certificate passes, and what it names is a carried track
-pub record IsSoundPass (triples : List (List ℤ)) (path : List Move) (left_out : List ℤ)
-    (c : CarriedTrack) : Type 0 where
-  pub passing : IsPassing triples path left_out c
+pub record IsSoundPass (series : Series) (triples : List (List ℤ)) (path : List Move)
+    (left_out : List ℤ) (c : CarriedTrack) : Type 0 where
+  pub passing : IsPassing series triples path left_out c
   pub corners : ArePlaced triples left_out
   pub triangles : ℕ → ℕ
   pub map : IsMap triples triples (path_map path) triangles
@@ -136,11 +152,11 @@ pub record IsSoundPass (triples : List (List ℤ)) (path : List Move) (left_out 
       (carrying_of c)
   pub bounds : IsBounds (matrix_of c) c.u c.low c.high
 
--- a candidate that passes gives a certificate that holds, where the power and the flips are within
--- the limits and each edge can be flipped where it is
+-- a candidate of either series that passes gives a certificate that holds, where the power and the
+-- flips are within the limits and each edge can be flipped where it is
 abbrev pub PassLaw : Type 0
-PassLaw = (triples : List (List ℤ)) (moves : List Move) (left_out : List ℤ) (c : CarriedTrack)
-    → 0 < c.power → c.power ≤ power_limit → length c.flips ≤ flip_limit
+PassLaw = (series : Series) (triples : List (List ℤ)) (moves : List Move) (left_out : List ℤ)
+    (c : CarriedTrack) → 0 < c.power → c.power ≤ power_limit → length c.flips ≤ flip_limit
     → CanBeFlipped triples c.flips
-    → IsSoundPass (track_triangles triples c) (track_path triples moves c) left_out c
+    → IsSoundPass series (track_triangles triples c) (track_path triples moves c) left_out c
     → IsPseudoAnosovCertificate triples moves c

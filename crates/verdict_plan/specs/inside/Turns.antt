@@ -7,13 +7,14 @@ use Rattle.tri_atlas.specs.Paths.{MovePath}
 use Rattle.cert_text.specs.Certificates.{CarriedTrack, track_seen}
 use Rattle.cert_text.specs.declared.carried_track.Pa.{Pa}
 use Rattle.cert_text.specs.declared.lines.TrackLine.{TrackLine}
-use Rattle.verdict_plan.specs.TrackAnswers.{IsLineAt}
+use Rattle.verdict_plan.specs.FirstTracks.{IsLineAt}
 use Rattle.verdict_plan.specs.inside.Sites.{IsLineWith, IsSite, IsStanding, AreSitesFrom}
 use Rattle.verdict_plan.specs.inside.Sites.{corners_at, path_at}
 use Rattle.verdict_plan.specs.inside.Trials.{IsSoundPass}
-use Rattle.verdict_plan.specs.inside.Staged.{there}
+use Rattle.cycle_stages.specs.KeptStages.{there}
+use Rattle.verdict_plan.specs.declared.series.Series.TheVariants.{First}
 use Rattle.verdict_plan.specs.declared.sites.Site.{Site}
-use Rattle.verdict_plan.specs.declared.stages.Stage.{Stage}
+use Rattle.cycle_stages.specs.declared.stages.Stage.{Stage}
 use Rattle.verdict_plan.specs.declared.trials.Trial.{Trial}
 
 -- the site of some candidate
@@ -40,7 +41,7 @@ pub record AreOtherSites (arena : Arena) (word : MovePath) (cycles : List (List 
 -- the candidate with this power passes, with this certificate
 pub record IsPassAt (arena : Arena) (word : MovePath) (s : Stage) (power : ℕ) (c : CarriedTrack)
     : Type 0 where
-  pub sound : IsSoundPass (there arena s) (path_at arena word s power) (corners_at arena s) c
+  pub sound : IsSoundPass First (there arena s) (path_at arena word s power) (corners_at arena s) c
   pub has_power : c.power ≡ power
   pub has_flips : c.flips ≡ s.edges.items
 

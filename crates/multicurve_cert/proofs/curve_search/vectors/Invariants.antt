@@ -1,7 +1,7 @@
 use Rattle.std.proofs.Common.{◌≡◌, map, take, All}
 use Rattle.tri_atlas.specs.Arena.{triangulation}
 use Rattle.multicurve_cert.specs.Cycles.{cycle_vector}
-use Rattle.multicurve_cert.specs.inside.Images.{AreAtBase}
+use Rattle.multicurve_cert.specs.LastTests.{AreAtBase}
 use Rattle.multicurve_cert.proofs.curve_search.vectors.Given as goal
 
 abbrev pub invariant-loop-cycle : goal.invariant-loop-cycle

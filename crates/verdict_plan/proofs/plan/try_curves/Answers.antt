@@ -1,4 +1,4 @@
-use Rattle.std.proofs.Common.{refl}
+use Rattle.std.proofs.Common.{inl, refl}
 use Rattle.tri_atlas.specs.Arena.{triangulation}
 use Rattle.tri_atlas.specs.Paths.{moves_of}
 use Rattle.verdict_plan.proofs.Sound.{reducible_sound}
@@ -11,4 +11,4 @@ returns-in_ok-reducible-in-Found-clause-sound c =
     reducible_sound (triangulation c.args.atlas.now 0) (moves_of c.args.atlas.now c.args.word.now) c.args.budget.now
     (c.base.ensures.sound.sound 0 c.base.ensures.sound.base) c.certificate_laws.ensures c.args.atlas.now refl
     c.power_laws.ensures c.requires.no_order _ c.in-Found.number c.in-Found.coords c.in_ok-reducible-in-Found.ensures
-    answer found
+    (inl answer) found

@@ -2,7 +2,7 @@ use Rattle.std.proofs.Common.{◌+◌}
 use Rattle.std.proofs.lemmas.Result.{IfOk-weaker}
 use Rattle.tri_atlas.specs.Arena.{triangulation}
 use Rattle.tri_atlas.specs.Paths.{moves_of}
-use Rattle.verdict_plan.specs.inside.Staged.{IsStageIn}
+use Rattle.cycle_stages.specs.KeptStages.{IsStageIn}
 use Rattle.verdict_plan.proofs.Grown.{here_too}
 use Rattle.verdict_plan.proofs.sites.next_depth.Goals as goal
 

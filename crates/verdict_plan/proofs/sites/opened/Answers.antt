@@ -1,4 +1,5 @@
 use Rattle.std.proofs.lemmas.Result.{IfOk-at_ok, IfErr-at_err}
+use Rattle.verdict_plan.specs.declared.series.Series.TheVariants.{First}
 use Rattle.verdict_plan.specs.inside.Sites.{path_at}
 use Rattle.verdict_plan.proofs.SiteTurns.{progress_on}
 use Rattle.verdict_plan.proofs.sites.opened.Goals as goal
@@ -14,5 +15,5 @@ returns-in_ok-progress-in-Ok c word =
 
 pub returns-in-Err : goal.returns-in-Err
 returns-in-Err c word power =
-    IfErr-at_err _ c.in-Err.is c.in_ok-track.ensures.refused
+    IfErr-at_err _ c.in-Err.is c.in_ok-track.ensures.refused First
     (path_at c.args.atlas.now word c.args.stage.now power)

@@ -61,7 +61,7 @@ returns-clause-sites c =
     c.len.result len c.if-len-cycles.false in
     IfOk-weaker c.following.result _ _
     (λ new follows. others_kept c.args.atlas.now c.following.new.atlas c.atlas_laws.ensures.growth
-    c.following.ensures.grows c.atlas_laws.ensures.handles c.base.ensures.sound c.args.word.now c.requires.closed words
+    c.following.ensures.grows c.atlas_laws.ensures.handles c.base.ensures.sound c.args.word.now c.requires.closed c.stage_laws.ensures words
     c.args.n c.pop_front.new.self.items
     (others_left c.args.atlas.now c.args.word.now words c.args.n c.args.sites.now.items c.requires.sites full
     c.in-Some.site c.pop_front.new.self.items c.in-Some.ensures.items))

@@ -6,7 +6,7 @@ use Rattle.free_groupoid.specs.Walks.{DualWalk}
 use Rattle.train_track.specs.Branches.{words_of}
 use Rattle.multicurve_cert.specs.Cycles.{AreCycles}
 use Rattle.cert_text.specs.Certificates.{track_seen}
-use Rattle.verdict_plan.specs.TrackAnswers.{track_count, track_kinds}
+use Rattle.verdict_plan.specs.FirstTracks.{track_count, track_kinds}
 use Rattle.verdict_plan.specs.inside.Known.{AreKnown}
 use Rattle.verdict_plan.proofs.Grown.{base_same, loop_kept, here_too, here_before}
 use Rattle.verdict_plan.proofs.SiteTurns.{sites_more}

@@ -19,7 +19,7 @@ returns-in-Ok-clause-found c =
     c.in-Ok.ensures.maps
 
 pub returns-in-Err-CapPassed-clause-line : goal.returns-in-Err-CapPassed-clause-line
-returns-in-Err-CapPassed-clause-line c =
+returns-in-Err-CapPassed-clause-line c series =
     let begins : c.in_ok-psi.psi ≡ identity_map c.args.atlas.now c.args.track.now.tri =
     c.in_ok-psi.ensures.value ∙ ap (identity_map c.args.atlas.now) c.tri.ensures in
     rw c.in-Err-CapPassed.letters-is
@@ -27,4 +27,4 @@ returns-in-Err-CapPassed-clause-line c =
     c.requires c.follow_path.new.self c.in-Err-CapPassed.letters
     (subst (λ (f : GroupoidMap). IsPathRefusal c.args.atlas.now f c.follow_path.new.self c.args.path.now.moves
     letter_cap (CapPassed c.in-Err-CapPassed.letters)) begins
-    (rw c.in-Err-CapPassed.field-0-is at c.in-Err-CapPassed.ensures.refused)))
+    (rw c.in-Err-CapPassed.field-0-is at c.in-Err-CapPassed.ensures.refused)) series)

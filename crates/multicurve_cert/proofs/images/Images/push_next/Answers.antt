@@ -4,7 +4,8 @@ use Rattle.tri_atlas.specs.MovedVectors.{OverflowsAt}
 use Rattle.tri_atlas.specs.Paths.{moves_of}
 use Rattle.edge_coords.specs.Coordinates.{Coordinates}
 use Rattle.edge_coords.specs.declared.coords.TheConstants.{COORDINATE_LIMIT}
-use Rattle.multicurve_cert.specs.inside.Images.{AreAtBase, AreImages, coords_at}
+use Rattle.multicurve_cert.specs.LastTests.{AreAtBase}
+use Rattle.multicurve_cert.specs.inside.Images.{AreImages, coords_at}
 use Rattle.multicurve_cert.proofs.ImageList.{is_last, read_last, images_next, images_end}
 use Rattle.multicurve_cert.proofs.images.Images.push_next.Goals as goal
 

@@ -1,0 +1,3 @@
+pub mod NextFlips
+pub mod OpenWalks
+pub mod StagesSoFar

@@ -1,0 +1,5 @@
+pub mod Doubling
+pub mod CarriedBack
+pub mod TouchedVertices
+pub mod CrossedEdges
+pub mod LightLines

@@ -1,0 +1,2 @@
+pub mod LightCurves
+pub mod inside

@@ -1,0 +1,80 @@
+use Rattle.std.proofs.Common.{◌≡◌, ◌<◌, ◌≤◌, ◌+◌, ◌++◌, ◌∙◌, ℕ, ℤ, List, length, sym, ap, subst, inl, arith, rules}
+use Rattle.tri_atlas.specs.Arena.{triangulation}
+use Rattle.tri_atlas.specs.Paths.{moves_of}
+use Rattle.tri_atlas.specs.Moves.{Move}
+use Rattle.edge_coords.specs.declared.lines.CurveLine.{CurveLine}
+use Rattle.verdict_plan.specs.AllCandidates.{AreFailedCurves, IsFoundCurve, further_budget}
+use Rattle.verdict_plan.proofs.GrownStages.{none_of_empty, open_of_some}
+use Rattle.verdict_plan.proofs.JoinedLists.{all_curves_fail, curves_within, first_curves_alone, further_curve_passes}
+use Rattle.verdict_plan.proofs.all_candidates.further_curves.Goals as goal
+
+pub returns-then-budget-lt-FURTHER_BUDGET-clause-answer : goal.returns-then-budget-lt-FURTHER_BUDGET-clause-answer
+returns-then-budget-lt-FURTHER_BUDGET-clause-answer c =
+    first_curves_alone (triangulation c.args.atlas.now 0) (moves_of c.args.atlas.now c.args.word.now) c.args.budget
+    c.args.first.items c.requires.first
+    (inl c.if-budget-lt-FURTHER_BUDGET.true)
+
+pub returns-then-is_empty-clause-answer : goal.returns-then-is_empty-clause-answer
+returns-then-is_empty-clause-answer c =
+    let empty : length c.args.stages.now ≡ 0 = search rules in
+    first_curves_alone (triangulation c.args.atlas.now 0) (moves_of c.args.atlas.now c.args.word.now) c.args.budget
+    c.args.first.items c.requires.first
+    (none_of_empty c.args.atlas.now c.args.word.now c.args.budget c.args.stages.now empty c.requires.stages)
+
+pub search_light-requires-clause-stages : goal.search_light-requires-clause-stages
+search_light-requires-clause-stages c =
+    let some : 0 < length c.args.stages.now = search rules in
+    let opened = open_of_some c.args.atlas.now c.args.word.now c.args.budget c.args.stages.now some c.requires.stages in
+    (opened.vector, opened.are_stages)
+
+pub number_behind-requires-clause-first : goal.number_behind-requires-clause-first
+number_behind-requires-clause-first c =
+    let few : length c.args.first.items ≤ c.args.budget =
+    curves_within (triangulation c.args.atlas.now 0) (moves_of c.args.atlas.now c.args.word.now) c.args.budget
+    c.args.first.items c.requires.first in
+    omega (arith, c.len.ensures, c.requires.budget)
+
+pub number_behind-requires-clause-number : goal.number_behind-requires-clause-number
+number_behind-requires-clause-number c =
+    let some : 0 < length c.args.stages.now = search rules in
+    let opened = open_of_some c.args.atlas.now c.args.word.now c.args.budget c.args.stages.now some c.requires.stages in
+    let told = c.in_ok-number.ensures.answer opened.vector opened.are_stages in
+    let answer = rw c.in-Found.is at told in
+    let few = answer.within in omega arith
+
+pub returns-in-Found-clause-answer : goal.returns-in-Found-clause-answer
+returns-in-Found-clause-answer c =
+    let some : 0 < length c.args.stages.now = search rules in
+    let opened = open_of_some c.args.atlas.now c.args.word.now c.args.budget c.args.stages.now some c.requires.stages in
+    let number : c.number_behind.result ≡ length c.args.first.items + c.in-Found.number =
+    omega (arith, c.number_behind.ensures, c.len.ensures) in
+    let enough : further_budget ≤ c.args.budget = omega (arith, c.if-budget-lt-FURTHER_BUDGET.false) in
+    let told = c.in_ok-number.ensures.answer opened.vector opened.are_stages in
+    let answer = rw c.in-Found.is at told in
+    subst
+    (λ (n : ℕ). IsFoundCurve (triangulation c.args.atlas.now 0) (moves_of c.args.atlas.now c.args.word.now)
+    c.args.budget n
+    c.in-Found.coords.numbers)
+    (sym number)
+    (further_curve_passes (triangulation c.args.atlas.now 0) (moves_of c.args.atlas.now c.args.word.now) c.args.budget
+    c.args.first.items c.requires.first
+    opened.vector enough opened.open_cycle c.in-Found.number c.in-Found.coords.numbers answer)
+
+pub returns-in-Found-clause-found : goal.returns-in-Found-clause-found
+returns-in-Found-clause-found c =
+    let found = rw c.in-Found.is at c.in_ok-number.ensures.found in
+    found
+
+pub returns-in_ok-extend_from_slice-in-None-clause-answer : goal.returns-in_ok-extend_from_slice-in-None-clause-answer
+returns-in_ok-extend_from_slice-in-None-clause-answer c =
+    let some : 0 < length c.args.stages.now = search rules in
+    let opened = open_of_some c.args.atlas.now c.args.word.now c.args.budget c.args.stages.now some c.requires.stages in
+    let enough : further_budget ≤ c.args.budget = omega (arith, c.if-budget-lt-FURTHER_BUDGET.false) in
+    let told = c.in_ok-number.ensures.answer opened.vector opened.are_stages in
+    let answer = rw c.in-None.is at told in
+    subst (AreFailedCurves (triangulation c.args.atlas.now 0) (moves_of c.args.atlas.now c.args.word.now) c.args.budget)
+    (sym (c.in_ok-extend_from_slice-in-None.ensures.items
+    ∙ ap (λ (ls : List CurveLine). c.args.first.items ++ ls) c.deref.ensures.value))
+    (all_curves_fail (triangulation c.args.atlas.now 0) (moves_of c.args.atlas.now c.args.word.now) c.args.budget
+    c.args.first.items c.requires.first
+    opened.vector enough opened.open_cycle c.in-None.further.items answer)

@@ -1,5 +1,0 @@
-use Rattle.verdict_plan.proofs.LastImages.{IsSmallImage}
-use Rattle.verdict_plan.proofs.stages.last_image.Given as goal
-
-abbrev pub invariant-loop : goal.invariant-loop
-invariant-loop l = IsSmallImage l.atlas l.word l.w l.counter l.image
