@@ -442,7 +442,7 @@ pub(crate) fn check_sure(
     let (texts, status, printed, said) = row;
     let words = words_of(alloc, texts)?;
     let mut out = SureSink {
-        bytes: Vec::with_capacity(alloc, 400)?,
+        bytes: Vec::with_capacity(alloc, 800)?,
         dropped: false,
     };
     let mut err = SureSink {
