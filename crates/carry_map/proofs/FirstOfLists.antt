@@ -1,8 +1,7 @@
 -- The first few elements of a list that is made piece by piece.
-use Rattle.std.proofs.Common.{◌≡◌, ◌≤◌, ◌++◌, ℕ, zero, suc, List, [], ◌∷◌, length, take, refl, sym, ◌∙◌, ap}
-use Rattle.std.proofs.Common.{arith, min}
+use Rattle.std.proofs.Common.{◌≡◌, ◌++◌, ℕ, zero, suc, List, [], ◌∷◌, length, take, refl, ◌∙◌, ap}
+use Rattle.std.proofs.Common.{arith}
 use Rattle.std.specs.List.{All}
-use Rattle.std.proofs.lemmas.List.{length-take}
 
 -- the first n of a piece, and then of what follows
 pub take_again : {A : Type 0} (n : ℕ) (xs ys : List A) → take n (take n xs ++ ys) ≡ take n (xs ++ ys)
@@ -16,21 +15,11 @@ pub take_more : {A : Type 0} (n : ℕ) (made before piece new : List A) → made
 take_more {A} n made before piece new is more =
     more ∙ ap (λ (xs : List A). take n (xs ++ piece)) is ∙ take_again n before piece
 
--- what is kept of all of them has as many
-pub few_taken : {A : Type 0} (n : ℕ) (xs ys : List A) → xs ≡ take n ys → length xs ≤ n
-few_taken {A} n xs ys is =
-    let long : length xs ≡ length (take n ys) = ap length is in
-    let least : length (take n ys) ≡ min n (length ys) = length-take n ys in omega arith
-
 pub first_of_all : {A : Type 0} (all : List A) (p : A) (rest : List A) → p ∷ rest ≡ take 1 all
     → (more : List A) × (all ≡ p ∷ more)
 first_of_all [] p rest is = absurd (let long : length (p ∷ rest) ≡ 0 = ap length is in omega arith)
 first_of_all {A} (q ∷ all) p rest is =
     (all, ap (λ (x : A). x ∷ all) (let same : q ≡ p = cc in same))
-
-pub none_of_all : {A : Type 0} (all : List A) → [] ≡ take 1 all → all ≡ []
-none_of_all [] is = refl
-none_of_all {A} (q ∷ all) is = absurd (let long : length (take 1 (q ∷ all)) ≡ 0 = sym (ap length is) in omega arith)
 
 pub All-take : {A : Type 0} (P : A → Type 0) (n : ℕ) (xs : List A) → All P xs → All P (take n xs)
 All-take P zero xs all k d within = absurd (omega arith)

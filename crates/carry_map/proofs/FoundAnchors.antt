@@ -15,7 +15,7 @@ use Rattle.ideal_tri.specs.Triangulations.{IsLabel, IsWalk, triangle_of}
 use Rattle.train_track.specs.Tracks.{is_switch, switches_of}
 use Rattle.train_track.specs.Branches.{TrainTrack, IsTrackOn, letter_at}
 use Rattle.carry_map.specs.Anchors.{Place, ArePlaces}
-use Rattle.carry_map.specs.AnchorAnswers.{IsAnchored, HasNoPlace, IsReachedFrom, carrying_by, place_at}
+use Rattle.carry_map.specs.AnchorAnswers.{IsAnchored, IsReachedFrom, carrying_by, place_at}
 use Rattle.carry_map.specs.AnchorLaws.{AreConnected}
 
 -- the switch that is read at a place
@@ -56,11 +56,11 @@ first_found ts out f i s places p e are (rest, is) = (
       (subst (λ (x : ℤ). ArePlaces ts out f x places) e are),
 )
 
-pub none_found : (ts : List (List ℤ)) (out : List ℤ) (f : ℤ → List ℤ) (i : ℕ) (s : ℤ) (places : List Place)
-    → s ≡ letter_at (switches_of ts out) i → ArePlaces ts out f s places → places ≡ [] → HasNoPlace ts out f i
-none_found ts out f i s places e are is =
-    subst (λ (ps : List Place). ArePlaces ts out f (letter_at (switches_of ts out) i) ps) is
-    (subst (λ (x : ℤ). ArePlaces ts out f x places) e are)
+-- places that are there begin with the first
+pub begins_with : (places : List Place) (p : Place) → 0 < length places → p ≡ place_at places 0
+    → (rest : List Place) × (places ≡ p ∷ rest)
+begins_with [] p some is = absurd (omega arith)
+begins_with (q ∷ rest) p some is = (rest, ap (λ (x : Place). x ∷ rest) (sym is))
 
 -- anchors that are reached connect the switches
 pub reached_connected : (ts : List (List ℤ)) (out : List ℤ) (triangles : ℕ → ℕ) (anchors : List Place)

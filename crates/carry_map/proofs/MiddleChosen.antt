@@ -7,7 +7,7 @@
 -- there are greatest heights; at 2 i and 2 i + 1 they are below the number of places of the switch i, and the number
 -- halfway between them is that of one of its places.
 use Rattle.std.proofs.Common.{◌≡◌, ◌<◌, ◌+◌, ◌*◌, ◌-◌, ◌/◌, ℕ, ℤ, List, [], length, get_or}
-use Rattle.std.proofs.Common.{sym, ◌∙◌, ap, subst, slice_index, Vec, Global}
+use Rattle.std.proofs.Common.{sym, ◌∙◌, ap, subst, slice_index}
 use Rattle.std.specs.List.{All}
 use Rattle.std.proofs.lemmas.List.{get_or_default}
 use Rattle.ideal_tri.specs.Labels.{inverse}
@@ -21,10 +21,10 @@ use Rattle.carry_map.specs.CarriedMaps.{final}
 use Rattle.carry_map.specs.MiddleAnchors.{HavePlaces, AreMiddleAnchors, switches_between, middle}
 use Rattle.carry_map.specs.inside.Heights.{AreGreatestFor}
 use Rattle.carry_map.specs.declared.heights.Step.{Step}
-use Rattle.carry_map.specs.inside.Steps.{AreAllReached, ArePicked, lists_in, number_of, counts_of, steps_of}
+use Rattle.carry_map.specs.inside.Steps.{AreAllReached, ArePicked, number_of, counts_of, steps_of}
 use Rattle.carry_map.specs.inside.Switches.{IsSwitchLabel}
 use Rattle.carry_map.proofs.MiddleHeights.{greatest_by_labels, height_at, back_switch}
-use Rattle.carry_map.proofs.MiddleSteps.{lists_long, middle_within}
+use Rattle.carry_map.proofs.MiddleSteps.{middle_within}
 use Rattle.carry_map.proofs.Pairs.{pairs_long, pair_on, pair_back, all_pairs, double_below, odd_double_below}
 use Rattle.carry_map.proofs.PickedPlaces.{picked_connected}
 use Rattle.carry_map.proofs.SwitchNumbers.{number_within, number_forwards}
@@ -32,24 +32,19 @@ use Rattle.carry_map.proofs.SwitchNumbers.{number_back, switch_first}
 use Rattle.carry_map.proofs.SwitchWalks.{first_switch, last_switch}
 
 module _ (labels : LabelLaws) {ts : List (List ℤ)} {out : List ℤ} (branches : List (List ℤ))
-    (are : All (IsBranch ts out) branches) {f : ℤ → List ℤ} {found vectors : List (Vec Place Global)}
-    (vectors_read : vectors ≡ found) (found_places : HavePlaces ts out f (lists_in found)) {counted counts : List ℕ}
-    (counts_read : counts ≡ counted) (counted_is : counted ≡ counts_of (lists_in vectors)) {listed : List ℤ}
+    (are : All (IsBranch ts out) branches) {f : ℤ → List ℤ} {found all : List (List Place)}
+    (all_read : all ≡ found) (found_places : HavePlaces ts out f found) {counted counts : List ℕ}
+    (counts_read : counts ≡ counted) (counted_is : counted ≡ counts_of all) {listed : List ℤ}
     (listed_is : listed ≡ switches_of ts out) {made steps : List Step} (steps_read : steps ≡ made)
-    (made_is : made ≡ steps_of listed (switches_between ts out f (lists_in vectors)) branches) where
+    (made_is : made ≡ steps_of listed (switches_between ts out f all) branches) where
   abbrev switches : List ℤ
   switches = switches_of ts out
 
-  abbrev all : List (List Place)
-  all = lists_in vectors
-
   have : HavePlaces ts out f all
-  have = subst (λ (vs : List (Vec Place Global)). HavePlaces ts out f (lists_in vs)) (sym vectors_read) found_places
+  have = subst (HavePlaces ts out f) (sym all_read) found_places
 
-  all_reached : (triangles : ℕ → ℕ) → AreAllReached ts out triangles (lists_in found)
-      → AreAllReached ts out triangles all
-  all_reached triangles reached =
-      subst (λ (vs : List (Vec Place Global)). AreAllReached ts out triangles (lists_in vs)) (sym vectors_read) reached
+  all_reached : (triangles : ℕ → ℕ) → AreAllReached ts out triangles found → AreAllReached ts out triangles all
+  all_reached triangles reached = subst (AreAllReached ts out triangles) (sym all_read) reached
 
   counts_is : counts ≡ counts_of all
   counts_is = counts_read ∙ counted_is
@@ -109,51 +104,42 @@ module _ (labels : LabelLaws) {ts : List (List ℤ)} {out : List ℤ} (branches 
     greatest : AreGreatestFor counts steps hs
     greatest = subst (AreGreatestFor counts steps) (sym heights_read) highest
 
-    pub heights_long : length hs ≡ 2 * length vectors
-    heights_long = greatest.heights.one_each ∙ counts_long ∙ ap (λ (n : ℕ). 2 * n) (lists_long vectors)
+    pub heights_long : length hs ≡ 2 * length all
+    heights_long = greatest.heights.one_each ∙ counts_long
 
-    -- of each list, by the vectors
-    listed_below : (i : ℕ) → i < length vectors → i < length all
-    listed_below i less = subst (λ (n : ℕ). i < n) (sym (lists_long vectors)) less
-
-    pub on_within : (i : ℕ) → i < length vectors → slice_index hs (2 * i) < length (get_or all i [])
-    on_within i short =
-        let less : i < length all = listed_below i short in
+    pub on_within : (i : ℕ) → i < length all → slice_index hs (2 * i) < length (get_or all i [])
+    on_within i less =
         let high : slice_index hs (2 * i) < slice_index counts (2 * i) =
         greatest.heights.within (2 * i) (double_below i (length all) (length counts) less counts_long) in
         subst (λ (n : ℕ). slice_index hs (2 * i) < n)
         (ap (λ (xs : List ℕ). slice_index xs (2 * i)) counts_is ∙ pair_on length length all i [] 0 less) high
 
-    pub back_within : (i : ℕ) → i < length vectors → slice_index hs (2 * i + 1) < length (get_or all i [])
-    back_within i short =
-        let less : i < length all = listed_below i short in
+    pub back_within : (i : ℕ) → i < length all → slice_index hs (2 * i + 1) < length (get_or all i [])
+    back_within i less =
         let high : slice_index hs (2 * i + 1) < slice_index counts (2 * i + 1) =
         greatest.heights.within (2 * i + 1) (odd_double_below i (length all) (length counts) less counts_long) in
         subst (λ (n : ℕ). slice_index hs (2 * i + 1) < n)
         (ap (λ (xs : List ℕ). slice_index xs (2 * i + 1)) counts_is ∙ pair_back length length all i [] 0 less) high
 
     module _ {halves numbers : List ℕ} (numbers_read : numbers ≡ halves)
-        (halves_are : (i : ℕ) → i < length vectors → slice_index halves i
+        (halves_are : (i : ℕ) → i < length all → slice_index halves i
         ≡ (length (get_or all i []) - 1 - slice_index hs (2 * i + 1) + slice_index hs (2 * i)) / 2) where
-      halfway : (i : ℕ) → i < length vectors → slice_index numbers i
+      halfway : (i : ℕ) → i < length all → slice_index numbers i
           ≡ (length (get_or all i []) - 1 - slice_index hs (2 * i + 1) + slice_index hs (2 * i)) / 2
       halfway i less = ap (λ (xs : List ℕ). slice_index xs i) numbers_read ∙ halves_are i less
 
-      pub numbers_within : (i : ℕ) → i < length vectors → slice_index numbers i < length (get_or all i [])
+      pub numbers_within : (i : ℕ) → i < length all → slice_index numbers i < length (get_or all i [])
       numbers_within i less =
           subst (λ (n : ℕ). n < length (get_or all i [])) (sym (halfway i less))
           (middle_within (length (get_or all i [])) (slice_index hs (2 * i)) (slice_index hs (2 * i + 1))
           (on_within i less) (back_within i less))
 
       module _ {picked : List Place} (is : ArePicked all (slice_index numbers) picked) where
-        short : (i : ℕ) → i < length all → i < length vectors
-        short i less = subst (λ (n : ℕ). i < n) (lists_long vectors) less
-
-        pub connected : (triangles : ℕ → ℕ) → AreAllReached ts out triangles (lists_in found)
+        pub connected : (triangles : ℕ → ℕ) → AreAllReached ts out triangles found
             → AreConnected ts out triangles (carrying_by picked)
         connected triangles reached =
             picked_connected ts out triangles all (slice_index numbers) picked have.one_list_each
-            (all_reached triangles reached) (λ i less. numbers_within i (short i less)) is
+            (all_reached triangles reached) numbers_within is
 
         -- the number of the place by the heights of labels
         number_is : (i : ℕ) → i < length all → slice_index numbers i
@@ -161,7 +147,7 @@ module _ (labels : LabelLaws) {ts : List (List ℤ)} {out : List ℤ} (branches 
             (letter_at switches i)
         number_is i less =
             let within : i < length switches = subst (λ (n : ℕ). i < n) have.one_list_each less in
-            halfway i (short i less)
+            halfway i less
             ∙ ap (λ (k : ℕ). (length (get_or all i []) - 1 - slice_index hs k + slice_index hs (2 * i)) / 2)
             (sym (number_back labels ts out i within))
             ∙ ap (λ (k : ℕ). (length (get_or all i []) - 1

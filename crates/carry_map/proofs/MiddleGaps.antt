@@ -3,10 +3,10 @@
 -- The walk that is computed is the one between the first place of the branch's first letter and the last place of its
 -- last. It leads from where the former starts to the end of the latter, so its letters are labels; and of a label it
 -- can be seen in the list of switches whether it is one of a switch.
-use Rattle.std.proofs.Common.{◌≡◌, ℕ, ℤ, pos, negsuc, List, [], length, sym, ◌∙◌, ap, subst}
+use Rattle.std.proofs.Common.{◌≡◌, ℕ, ℤ, pos, negsuc, List, length, sym, ◌∙◌, ap}
 use Rattle.std.specs.List.{All, filter}
 use Rattle.std.proofs.lemmas.List.{length-map}
-use Rattle.ideal_tri.specs.Labels.{edge_of, inverse}
+use Rattle.ideal_tri.specs.Labels.{inverse}
 use Rattle.ideal_tri.specs.LabelLaws.{LabelLaws}
 use Rattle.ideal_tri.specs.SurfaceLaws.{SurfaceLaws}
 use Rattle.ideal_tri.specs.Triangulations.{IsTriangulation, IsLabel, triangle_of}
@@ -21,7 +21,7 @@ use Rattle.carry_map.specs.CarriedMaps.{goes_to, final}
 use Rattle.carry_map.specs.MiddleAnchors.{switches_between}
 use Rattle.carry_map.specs.inside.Rays.{is_listed}
 use Rattle.carry_map.specs.inside.Steps.{AreFirsts, AreLasts, by_sign}
-use Rattle.carry_map.specs.inside.Switches.{IsFirstAt, walk_from_to}
+use Rattle.carry_map.specs.inside.Switches.{walk_from_to}
 use Rattle.carry_map.proofs.ListedSwitches.{listed_letters}
 use Rattle.carry_map.proofs.PickedPlaces.{between_ends}
 use Rattle.carry_map.proofs.SwitchNumbers.{switch_first}

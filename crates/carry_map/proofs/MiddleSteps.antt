@@ -1,10 +1,10 @@
 -- What is made switch by switch and branch by branch for the middle rule.
-use Rattle.std.proofs.Common.{◌≡◌, ◌<◌, ◌≤◌, ◌+◌, ◌-◌, ◌*◌, ◌/◌, ℕ, suc, ℤ, pos, List, [], ◌∷◌, ◌++◌, length, map, get_or, take}
-use Rattle.std.proofs.Common.{refl, sym, ◌∙◌, ap, ap₂, subst, arith, slice_index, inl, inr, Vec, Global, append_assoc}
-use Rattle.std.specs.List.{All, flat_map, filter}
+use Rattle.std.proofs.Common.{◌≡◌, ◌<◌, ◌≤◌, ◌+◌, ◌-◌, ◌/◌, ℕ, ℤ, pos, List, [], ◌∷◌, ◌++◌, length, get_or, take}
+use Rattle.std.proofs.Common.{refl, sym, ◌∙◌, ap, ap₂, subst, arith, slice_index, inl, inr, append_assoc}
+use Rattle.std.specs.List.{flat_map}
 use Rattle.std.proofs.lemmas.Bool.{cases_eq}
-use Rattle.std.proofs.lemmas.List.{get_or-map, length-map, length-append, get_or_push, get_or_append_left, map-append}
-use Rattle.std.proofs.lemmas.List.{map_more, take_all, get_or_default}
+use Rattle.std.proofs.lemmas.List.{length-append, get_or_push, get_or_append_left}
+use Rattle.std.proofs.lemmas.List.{map_more, take_all, take_more, get_or_default}
 use Rattle.std.proofs.lemmas.List.Concat.{flat_map-append}
 use Rattle.free_groupoid.specs.Walks.{DualWalk}
 use Rattle.ideal_tri.specs.Labels.{inverse}
@@ -13,7 +13,7 @@ use Rattle.carry_map.specs.CarriedMaps.{final}
 use Rattle.carry_map.specs.Anchors.{Place}
 use Rattle.carry_map.specs.AnchorAnswers.{place_at}
 use Rattle.carry_map.specs.declared.heights.Step.{Step}
-use Rattle.carry_map.specs.inside.Steps.{lists_in, counts_of, number_of, steps_along, steps_of}
+use Rattle.carry_map.specs.inside.Steps.{counts_of, number_of, steps_along, steps_of}
 
 -- ---- what holds of each entry of a list that grows
 
@@ -35,40 +35,24 @@ module _ {A : Type 0} (none : A) where
         ]),
   )
 
--- ---- lists of vectors
-
-pub lists_long : (vectors : List (Vec Place Global)) → length (lists_in vectors) ≡ length vectors
-lists_long vectors = length-map vectors (λ (v : Vec Place Global). v.items)
-
--- the list of a vector that was read
-pub list_read : (vectors : List (Vec Place Global)) (i : ℕ) (v : Vec Place Global) → i < length vectors
-    → v ≡ get_or vectors i v → v.items ≡ get_or (lists_in vectors) i []
-list_read vectors i v less e =
-    ap (λ (w : Vec Place Global). w.items) e
-    ∙ sym (get_or-map (λ (w : Vec Place Global). w.items) vectors i v [] less)
-
--- one more vector
-pub lists_more : (vectors new : List (Vec Place Global)) (v : Vec Place Global) → new ≡ vectors ++ (v ∷ [])
-    → lists_in new ≡ lists_in vectors ++ (v.items ∷ [])
-lists_more vectors new v e =
-    ap lists_in e ∙ map-append (λ (w : Vec Place Global). w.items) vectors (v ∷ [])
+-- ---- counts
 
 abbrev pair : List Place → List ℕ
 pair ps = length ps ∷ (length ps ∷ [])
 
 -- the counts of one list more
-pub counts_more : (vectors : List (Vec Place Global)) (counts one two : List ℕ) (i n m : ℕ) (v : Vec Place Global)
-    → i < length vectors → v ≡ get_or vectors i v → counts ≡ counts_of (lists_in (take i vectors))
-    → one ≡ counts ++ (n ∷ []) → two ≡ one ++ (m ∷ []) → n ≡ length v.items → m ≡ length v.items
-    → two ≡ counts_of (lists_in (take (i + 1) vectors))
-counts_more vectors counts one two i n m v less e before first second en em =
+pub counts_more : (lists : List (List Place)) (counts one two : List ℕ) (i n m : ℕ) (ps : List Place)
+    → i < length lists → ps ≡ get_or lists i ps → counts ≡ counts_of (take i lists)
+    → one ≡ counts ++ (n ∷ []) → two ≡ one ++ (m ∷ []) → n ≡ length ps → m ≡ length ps
+    → two ≡ counts_of (take (i + 1) lists)
+counts_more lists counts one two i n m ps less e before first second en em =
     second ∙ ap (λ (xs : List ℕ). xs ++ (m ∷ [])) first
     ∙ joined counts n m
-    ∙ ap (λ (k : ℕ). counts ++ (k ∷ (m ∷ []))) en ∙ ap (λ (k : ℕ). counts ++ (length v.items ∷ (k ∷ []))) em
-    ∙ ap (λ (xs : List ℕ). xs ++ pair v.items) before
-    ∙ sym (flat_map-append pair (lists_in (take i vectors)) (v.items ∷ []))
-    ∙ ap (λ (w : Vec Place Global). flat_map pair (lists_in (take i vectors) ++ (w.items ∷ []))) e
-    ∙ ap (flat_map pair) (sym (map_more (λ (w : Vec Place Global). w.items) vectors i v less))
+    ∙ ap (λ (k : ℕ). counts ++ (k ∷ (m ∷ []))) en ∙ ap (λ (k : ℕ). counts ++ (length ps ∷ (k ∷ []))) em
+    ∙ ap (λ (xs : List ℕ). xs ++ pair ps) before
+    ∙ sym (flat_map-append pair (take i lists) (ps ∷ []))
+    ∙ ap (λ (qs : List Place). flat_map pair (take i lists ++ (qs ∷ []))) e
+    ∙ ap (flat_map pair) (sym (take_more lists i ps less))
   where
     joined : (xs : List ℕ) (a b : ℕ) → (xs ++ (a ∷ [])) ++ (b ∷ []) ≡ xs ++ (a ∷ (b ∷ []))
     joined [] a b = refl
@@ -129,19 +113,14 @@ middle_within n h back on below = omega arith
 -- ---- picked places
 
 -- one place more, that with the number of its list
-pub picked_more : (vectors : List (Vec Place Global)) (found new : List Place) (i : ℕ) (v : Vec Place Global)
-    (item p : Place) (number : ℕ → ℕ)
-    → ((length found ≡ i)
-    × ((k : ℕ) → k < i → place_at found k ≡ place_at (get_or (lists_in vectors) k []) (number k)))
-    → i < length vectors → v ≡ get_or vectors i v → item ≡ get_or v.items (number i) item → p ≡ item
-    → number i < length (get_or (lists_in vectors) i []) → new ≡ found ++ (p ∷ [])
-    → (length new ≡ i + 1)
-    × ((k : ℕ) → k < i + 1 → place_at new k ≡ place_at (get_or (lists_in vectors) k []) (number k))
-picked_more vectors found new i v item p number (long, before) less read at same within more =
-    grown none (λ k q. q ≡ place_at (get_or (lists_in vectors) k []) (number k)) found new i p long more before
-    (same ∙ at ∙ get_or_default v.items (number i) item none
-    (subst (λ (ps : List Place). number i < length ps) (sym (list_read vectors i v less read)) within)
-    ∙ ap (λ (ps : List Place). place_at ps (number i)) (list_read vectors i v less read))
+pub picked_more : (lists : List (List Place)) (found new : List Place) (i : ℕ) (ps : List Place) (p : Place)
+    (number : ℕ → ℕ)
+    → ((length found ≡ i) × ((k : ℕ) → k < i → place_at found k ≡ place_at (get_or lists k []) (number k)))
+    → i < length lists → ps ≡ get_or lists i ps → p ≡ place_at ps (number i) → new ≡ found ++ (p ∷ [])
+    → (length new ≡ i + 1) × ((k : ℕ) → k < i + 1 → place_at new k ≡ place_at (get_or lists k []) (number k))
+picked_more lists found new i ps p number (long, before) less read same more =
+    grown none (λ k q. q ≡ place_at (get_or lists k []) (number k)) found new i p long more before
+    (same ∙ ap (λ (qs : List Place). place_at qs (number i)) (read ∙ get_or_default lists i ps [] less))
   where
     none : Place
     none = record { connect = []; label = pos 0 }

@@ -3,20 +3,19 @@
 -- The switches are listed by their labels that aren't negative, each once, as they are some of 0, 1, 2, .. in their
 -- order. So each stands first at its own place, and the label of a switch has the number 2 i or 2 i + 1, where i is
 -- the place of its edge. A list with two numbers for each switch has at this number the one for the label.
-use Rattle.std.proofs.Common.{◌≡◌, ◌≢◌, ◌⊎◌, ◌<◌, ◌≤◌, ◌+◌, ◌*◌, ℕ, zero, suc, ℤ, pos, negsuc, Bool, true, false}
-use Rattle.std.proofs.Common.{List, [], ◌∷◌, length, map, get_or, inl, inr, refl, sym, ◌∙◌, ap, subst, arith}
+use Rattle.std.proofs.Common.{◌≡◌, ◌≢◌, ◌<◌, ◌≤◌, ◌+◌, ◌*◌, ℕ, zero, suc, ℤ, pos, negsuc, Bool, true}
+use Rattle.std.proofs.Common.{List, [], ◌∷◌, length, map, inl, inr, refl, sym, ◌∙◌, ap, subst, arith}
 use Rattle.std.proofs.Common.{slice_index, if◌then◌else◌}
 use Rattle.std.proofs.lemmas.Bool.{cases_Bool, cond-true, cond-false}
 use Rattle.std.proofs.lemmas.List.Elements.{All-filter, filter_passes}
 use Rattle.std.proofs.lemmas.List.FromFn.{length-map-range_with_len, get_or-map-range_with_len}
-use Rattle.std.specs.List.{All, Contains, filter, flat_map, range_with_len}
+use Rattle.std.specs.List.{All, filter, range_with_len}
 use Rattle.ideal_tri.specs.Labels.{inverse, edge_of}
 use Rattle.ideal_tri.specs.LabelLaws.{LabelLaws}
-use Rattle.ideal_tri.specs.Triangulations.{IsLabel, edge_count, place_in}
+use Rattle.ideal_tri.specs.Triangulations.{edge_count, place_in}
 use Rattle.train_track.specs.Tracks.{is_switch, switches_of}
 use Rattle.train_track.specs.Branches.{letter_at}
 use Rattle.carry_map.specs.Anchors.{Place}
-use Rattle.carry_map.specs.CarriedMaps.{beside}
 use Rattle.carry_map.specs.MiddleAnchors.{place_count}
 use Rattle.carry_map.specs.inside.Steps.{number_of, counts_of}
 use Rattle.carry_map.specs.inside.Switches.{IsFirstAt, IsSwitchLabel}

@@ -4,7 +4,7 @@
 -- whose label passes the test; and the test gives the same for a label and its inverse, as it asks for a fork on either
 -- side. In a list that has x there is a first place where x stands. What stands beside x in a second list of the same
 -- length is the entry at that place: before it the labels differ from x, and there they agree.
-use Rattle.std.proofs.Common.{ℕ, zero, suc, ℤ, pos, negsuc, Bool, true, false, List, [], ◌∷◌, ◌≡◌, ◌≢◌, ◌<◌}
+use Rattle.std.proofs.Common.{ℕ, zero, suc, ℤ, pos, negsuc, Bool, true, List, [], ◌∷◌, ◌≡◌, ◌≢◌, ◌<◌}
 use Rattle.std.proofs.Common.{◌≤◌, ◌+◌, inl, inr, sym, ◌∙◌, ap, subst, arith, length, map, get_or}
 use Rattle.std.proofs.Common.{if◌then◌else◌}
 use Rattle.std.proofs.Math.Bool.{or_comm}

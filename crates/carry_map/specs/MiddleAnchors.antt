@@ -1,7 +1,7 @@
 -- Anchors in the middle of the places of a switch: as far along as the branches after it allow, and
 -- as far back as those before it do.
 use Rattle.std.specs.Prelude.{◌≡◌, ◌⊎◌, ◌<◌, ◌≤◌, ◌+◌, ◌-◌, ◌/◌, ◌++◌, ◌∷◌, ℕ, ℤ, pos, negsuc, true}
-use Rattle.std.specs.Prelude.{List, [], length, map, filter, All, slice_index_or}
+use Rattle.std.specs.Prelude.{List, [], length, filter, All, slice_index_or}
 use Rattle.std.specs.List.{flat_map}
 use Rattle.ideal_tri.specs.Labels.{inverse, edge_of}
 use Rattle.ideal_tri.specs.Words.{inverse_word, reduce, but_last}

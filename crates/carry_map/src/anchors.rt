@@ -1,11 +1,9 @@
 //! The anchor rule: where the switches go.
-ghost use Rattle.std.specs.Prelude.{◌≡◌, ◌<◌, ◌^◌, ◌∷◌, ℕ, List, [], IfOk, IfErr, IfSome, IfNone};
-ghost use Rattle.std.specs.Prelude.{All};
+ghost use Rattle.std.specs.Prelude.{◌<◌, ◌^◌, ℕ, IfOk, IfErr, All};
 ghost use Rattle.tri_atlas.specs.Arena.{triangulation};
 ghost use Rattle.free_groupoid.specs.Walks.{IsWalkOn};
 ghost use Rattle.free_groupoid.specs.GroupoidMaps.{substitution, vertex_image};
 ghost use Rattle.train_track.specs.Branches.{words_of};
-ghost use Rattle.carry_map.specs.Anchors.{Place as SharedLetter};
 ghost use Rattle.carry_map.specs.CarriedMaps.{IsCarried};
 ghost use Rattle.carry_map.specs.AnchorAnswers.{IsMapOnTrack, AreAnchors, IsAnchorAnswer};
 ghost use Rattle.carry_map.specs.CarryingWalks.{carrying_of};
@@ -66,18 +64,11 @@ fn anchors(
     let _ = atlas.base();
     let mut anchors = Vec::new(alloc);
     for s in track.switches() {
-        match first_place(places(alloc, atlas, track, psi, *s, 1)?) {
-            Some(place) => anchors.push(place)?,
-            None => return Err(AnchorError::NoCommonPart(s.get())),
+        let first = places(alloc, atlas, track, psi, *s, 1)?;
+        if first.len() == 0 {
+            return Err(AnchorError::NoCommonPart(s.get()));
         }
+        anchors.push(first.place(alloc, 0)?)?;
     }
     Ok(anchors)
-}
-
-/// The first of the places, if there is one.
-fn first_place(places: Vec<Place>) -> Option<Place>
-    ensures some { IfSome result (λ p. (rest : List SharedLetter) × (places.items ≡ p ∷ rest)) }
-    ensures none { IfNone result (places.items ≡ []) }
-{
-    places.into_iter().next()
 }

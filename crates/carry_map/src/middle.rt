@@ -11,12 +11,12 @@ ghost use Rattle.carry_map.specs.CarryingWalks.{carrying_of};
 ghost use Rattle.carry_map.specs.AnchorLaws.{AreConnected};
 ghost use Rattle.carry_map.specs.MiddleAnchors.{HavePlaces, AreMiddleAnchors, IsMiddleAnswer};
 ghost use Rattle.carry_map.specs.MiddleAnchors.{IsMiddleRefusal};
-ghost use Rattle.carry_map.specs.inside.Steps.{lists_in, AreAllReached, counts_of};
+ghost use Rattle.carry_map.specs.inside.Steps.{AreAllReached, counts_of};
 
 use crate::carry::{AnchorError, CarryMap, carry_with};
 use crate::heights::greatest_heights;
 use crate::picked::picked;
-use crate::places::{Place, places};
+use crate::places::{Place, SwitchPlaces, places};
 use crate::steps::steps;
 use free_groupoid::Map;
 use ideal_tri::{Memory, label_laws};
@@ -86,12 +86,12 @@ fn all_places(
     atlas: &Atlas,
     track: &Track,
     psi: &Map,
-) -> Result<Vec<Vec<Place>>, AnchorError>
+) -> Result<Vec<SwitchPlaces>, AnchorError>
     requires { IsMapOnTrack atlas.now track.now psi.now }
     ensures places { IfOk result (λ v. HavePlaces (triangulation atlas.now track.now.tri)
-        track.now.left_out (substitution psi.now.images) (lists_in v.items)) }
+        track.now.left_out (substitution psi.now.images) v.items) }
     ensures reached { IfOk result (λ v. AreAllReached (triangulation atlas.now track.now.tri)
-        track.now.left_out (vertex_image psi.now) (lists_in v.items)) }
+        track.now.left_out (vertex_image psi.now) v.items) }
     ensures refused { IfErr result (λ e. (cap : ℕ) → IsMiddleRefusal
         (triangulation atlas.now track.now.tri) track.now psi.now cap e) }
 {
@@ -99,7 +99,7 @@ fn all_places(
     let mut all = Vec::new(alloc);
     for s in track.switches() {
         let found = places(alloc, atlas, track, psi, *s, usize::MAX)?;
-        if found.is_empty() {
+        if found.len() == 0 {
             return Err(AnchorError::NoCommonPart(s.get()));
         }
         all.push(found)?;
@@ -108,8 +108,8 @@ fn all_places(
 }
 
 /// How many places each label of a switch has, by the numbers of the labels.
-fn place_counts(alloc: Global, all: &[Vec<Place>]) -> Result<Vec<usize>, Memory>
-    ensures { IfOk result (λ v. v.items ≡ counts_of (lists_in all.now)) }
+fn place_counts(alloc: Global, all: &[SwitchPlaces]) -> Result<Vec<usize>, Memory>
+    ensures { IfOk result (λ v. v.items ≡ counts_of all.now) }
 {
     let mut counts = Vec::new(alloc);
     for places in all {
@@ -123,17 +123,17 @@ fn place_counts(alloc: Global, all: &[Vec<Place>]) -> Result<Vec<usize>, Memory>
 /// that of its inverse from its last place back.
 fn middle_numbers(
     alloc: Global,
-    all: &[Vec<Place>],
+    all: &[SwitchPlaces],
     heights: &[usize],
 ) -> Result<Vec<usize>, Memory>
     requires two_each { length heights.now ≡ 2 * length all.now }
     requires on { (i : ℕ) → i < length all.now
-        → slice_index heights.now (2 * i) < length (slice_index_or (lists_in all.now) i []) }
+        → slice_index heights.now (2 * i) < length (slice_index_or all.now i []) }
     requires back { (i : ℕ) → i < length all.now
-        → slice_index heights.now (2 * i + 1) < length (slice_index_or (lists_in all.now) i []) }
+        → slice_index heights.now (2 * i + 1) < length (slice_index_or all.now i []) }
     ensures as_many { IfOk result (λ v. length v.items ≡ length all.now) }
     ensures halfway { IfOk result (λ v. (i : ℕ) → i < length all.now → slice_index v.items i
-        ≡ (length (slice_index_or (lists_in all.now) i []) - 1 - slice_index heights.now (2 * i + 1)
+        ≡ (length (slice_index_or all.now i []) - 1 - slice_index heights.now (2 * i + 1)
         + slice_index heights.now (2 * i)) / 2) }
 {
     let mut numbers = Vec::new(alloc);
@@ -146,7 +146,7 @@ fn middle_numbers(
 }
 
 /// The number halfway between a height from the first place on, and one from the last place back.
-fn halfway(places: &[Place], on: usize, back: usize) -> usize
+fn halfway(places: &SwitchPlaces, on: usize, back: usize) -> usize
     requires on { on < length places.now }
     requires back { back < length places.now }
     ensures { result ≡ (length places.now - 1 - back + on) / 2 }

@@ -1,14 +1,15 @@
 //! The places of a switch: the letters that the lines of all legal walks through it share.
-ghost use Rattle.std.specs.Prelude.{◌≡◌, ◌++◌, ◌∷◌, ◌≤◌, List, [], length, take, drop, IfOk, OnOk, All};
+ghost use Rattle.std.specs.Prelude.{◌≡◌, ◌<◌, ◌≤◌, ◌^◌, ◌++◌, ◌∷◌, ℤ, List, [], length, take, drop};
+ghost use Rattle.std.specs.Prelude.{IfOk, OnOk, All};
 ghost use Rattle.ideal_tri.specs.Triangulations.{IsLabel, triangle_of};
 ghost use Rattle.tri_atlas.specs.Arena.{triangulation};
 ghost use Rattle.free_groupoid.specs.GroupoidMaps.{substitution, vertex_image};
 ghost use Rattle.train_track.specs.Branches.{words_of};
 ghost use Rattle.carry_map.specs.Anchors.{ArePlaces, Place as SharedLetter};
-ghost use Rattle.carry_map.specs.AnchorAnswers.{IsMapOnTrack, IsReachedFrom};
+ghost use Rattle.carry_map.specs.AnchorAnswers.{IsMapOnTrack, IsReachedFrom, place_at};
 ghost use Rattle.carry_map.specs.inside.Rays.{places_past, AreRaysFrom, back_words, front_words};
 ghost use Rattle.carry_map.specs.inside.Rays.{common_of, most_shared, places_back, places_on};
-ghost use Rattle.carry_map.specs.inside.Rays.{is_listed, at_listed};
+ghost use Rattle.carry_map.specs.inside.Rays.{is_listed, at_listed, places_at, place_along};
 
 use crate::rays::{common, most_shared, rays};
 use crate::windows::three_longer;
@@ -34,6 +35,58 @@ impl Model for Place {
     ghost view = { λ a. record { connect = a.connect.items; label = a.label } };
 }
 
+/// A place along one of two words: whether this is the word on, how many of its first letters are
+/// the walk, and the letter.
+#[derive(Debug, Drop)]
+struct Spot {
+    on: bool,
+    letters: usize,
+    label: Label,
+}
+
+/// SwitchPlaces of a switch in their order on the lines. Each walk is a beginning of the word back or of
+/// the word on, and only its length is kept: the walks together may be as long as the square of the
+/// words.
+#[derive(Debug, Drop)]
+pub(crate) struct SwitchPlaces {
+    back: Vec<Label>,
+    on: Vec<Label>,
+    spots: Vec<Spot>,
+}
+
+impl Model for SwitchPlaces {
+    ghost use Rattle.std.specs.Prelude.{List};
+    ghost use Rattle.carry_map.specs.Anchors.{Place as SharedLetter};
+    ghost use Rattle.carry_map.specs.inside.Rays.{places_at};
+
+    ghost Value = { List SharedLetter };
+
+    ghost view = { λ a. places_at a.back.items a.on.items a.spots.items };
+}
+
+impl SwitchPlaces {
+    /// How many places there are.
+    pub(crate) fn len(&self) -> usize
+        ensures value { result ≡ length self.now }
+        ensures few { result < 2 ^ 63 }
+    {
+        self.spots.len()
+    }
+
+    /// The place with this number.
+    pub(crate) fn place(&self, alloc: Global, i: usize) -> Result<Place, Memory>
+        requires { i < length self.now }
+        ensures { IfOk result (λ p. p ≡ place_at self.now i) }
+    {
+        let spot = &self.spots[i];
+        let label = spot.label;
+        let word = if spot.on { &self.on } else { &self.back };
+        let letters = spot.letters.min(word.len());
+        let connect = Vec::from_slice(alloc, &word[..letters])?;
+        Ok(Place { connect, label })
+    }
+}
+
 /// The first places of a switch, so many at most, in their order on the lines. A line runs from the
 /// end of the image of a legal walk of three letters back from the switch to the end of that of a
 /// legal walk of three letters on from it. So the places lie back along what all the former images
@@ -46,15 +99,15 @@ pub(crate) fn places(
     psi: &Map,
     s: Label,
     most: usize,
-) -> Result<Vec<Place>, Memory>
+) -> Result<SwitchPlaces, Memory>
     requires map { IsMapOnTrack atlas.now track.now psi.now }
     requires label { IsLabel (triangulation atlas.now track.now.tri) s }
     ensures places { IfOk result (λ v. (all : List SharedLetter)
         × ArePlaces (triangulation atlas.now track.now.tri) track.now.left_out
-        (substitution psi.now.images) s all × (v.items ≡ take most all)) }
-    ensures reached { IfOk result (λ v. All (IsReachedFrom (triangulation atlas.now track.now.tri)
+        (substitution psi.now.images) s all × (v ≡ take most all)) }
+    ensures reached { IfOk result (All (IsReachedFrom (triangulation atlas.now track.now.tri)
         track.now.left_out (vertex_image psi.now (triangle_of
-        (triangulation atlas.now track.now.tri) s))) v.items) }
+        (triangulation atlas.now track.now.tri) s)))) }
 {
     let _ = atlas.tri(track.tri());
     label_laws();
@@ -117,35 +170,39 @@ fn places_of_rays(
     backs: &[Walk],
     fronts: &[Walk],
     most: usize,
-) -> Result<Vec<Place>, Memory>
-    ensures { IfOk result (λ v. v.items ≡ take most (at_listed track.now.switches
+) -> Result<SwitchPlaces, Memory>
+    ensures { IfOk result (λ v. v ≡ take most (at_listed track.now.switches
         (places_past (most_shared (words_of backs.now) (words_of fronts.now))
         (common_of (words_of backs.now)) (common_of (words_of fronts.now))))) }
 {
     let apart = most_shared(backs, fronts);
-    let mut found = Vec::new(alloc);
-    push_back(alloc, &mut found, track, apart, common(backs), most)?;
-    push_on(alloc, &mut found, track, apart, common(fronts), most)?;
-    Ok(found)
+    let back = Vec::from_slice(alloc, common(backs))?;
+    let on = Vec::from_slice(alloc, common(fronts))?;
+    let mut spots = Vec::new(alloc);
+    push_back(&mut spots, track, apart, &back, most)?;
+    push_on(&mut spots, track, apart, &on, most)?;
+    Ok(SwitchPlaces { back, on, spots })
 }
 
-/// Adds the places back along a word, from its end as far as its first `n` letters, up to `most` in all.
+/// Adds the places back along a word, from its end as far as its first `n` letters, up to `most` in
+/// all.
 fn push_back(
-    alloc: Global,
-    found: &mut Vec<Place>,
+    spots: &mut Vec<Spot>,
     track: &Track,
     n: usize,
-    word: &[Label],
+    back: &[Label],
     most: usize,
 ) -> Result<(), Memory>
-    requires few { length found.old.items ≤ most }
-    ensures { OnOk result (found.new.items ≡ take most (found.old.items
-        ++ at_listed track.now.switches (places_back (take n word.now) (drop n word.now)))) }
+    requires few { length spots.old.items ≤ most }
+    ensures few { OnOk result (length spots.new.items ≤ most) }
+    ensures places { OnOk result ((on : List ℤ) → places_at back.now on spots.new.items
+        ≡ take most (places_at back.now on spots.old.items
+        ++ at_listed track.now.switches (places_back (take n back.now) (drop n back.now)))) }
 {
-    let mut d = word.len();
+    let mut d = back.len();
     while d > n {
-        let y = word[d - 1].inverse();
-        push_place(alloc, found, track, &word[..d], y, most)?;
+        let y = back[d - 1].inverse();
+        push_spot(spots, track, false, d, y, most)?;
         d -= 1;
     }
     Ok(())
@@ -153,39 +210,41 @@ fn push_back(
 
 /// Adds the places on along a word, past its first `n` letters, up to `most` in all.
 fn push_on(
-    alloc: Global,
-    found: &mut Vec<Place>,
+    spots: &mut Vec<Spot>,
     track: &Track,
     n: usize,
-    word: &[Label],
+    on: &[Label],
     most: usize,
 ) -> Result<(), Memory>
-    requires few { length found.old.items ≤ most }
-    ensures { OnOk result (found.new.items ≡ take most (found.old.items
-        ++ at_listed track.now.switches (places_on (take n word.now) (drop n word.now)))) }
+    requires few { length spots.old.items ≤ most }
+    ensures { OnOk result ((back : List ℤ) → places_at back on.now spots.new.items
+        ≡ take most (places_at back on.now spots.old.items
+        ++ at_listed track.now.switches (places_on (take n on.now) (drop n on.now)))) }
 {
-    for d in n..word.len() {
-        push_place(alloc, found, track, &word[..d], word[d], most)?;
+    for d in n..on.len() {
+        push_spot(spots, track, true, d, on[d], most)?;
     }
     Ok(())
 }
 
 /// Adds a place, where the edge of its letter is a switch and fewer than `most` are there.
-fn push_place(
-    alloc: Global,
-    found: &mut Vec<Place>,
+fn push_spot(
+    spots: &mut Vec<Spot>,
     track: &Track,
-    connect: &[Label],
+    on: bool,
+    letters: usize,
     label: Label,
     most: usize,
 ) -> Result<(), Memory>
-    requires few { length found.old.items ≤ most }
-    ensures { OnOk result (found.new.items ≡ take most (found.old.items
-        ++ at_listed track.now.switches (record { connect = connect.now; label = label } ∷ []))) }
+    requires few { length spots.old.items ≤ most }
+    ensures few { OnOk result (length spots.new.items ≤ most) }
+    ensures places { OnOk result ((back : List ℤ) → (front : List ℤ)
+        → places_at back front spots.new.items
+        ≡ take most (places_at back front spots.old.items ++ at_listed track.now.switches
+        (place_along back front (record { on = on; letters = letters; label = label }) ∷ []))) }
 {
-    if found.len() < most && is_listed(track.switches(), label) {
-        let connect = Vec::from_slice(alloc, connect)?;
-        found.push(Place { connect, label })?;
+    if spots.len() < most && is_listed(track.switches(), label) {
+        spots.push(Spot { on, letters, label })?;
     }
     Ok(())
 }

@@ -1,7 +1,7 @@
 //! Places on the once-punctured torus.
 ghost use Rattle.carry_map.specs.AnchorAnswers.{IsMapOnTrack};
 
-use crate::places::{Place, places};
+use crate::places::{Place, SwitchPlaces, places};
 use crate::torus::{is_word, torus, torus_track, two_twists};
 use free_groupoid::Map;
 use ideal_tri::Label;
@@ -11,7 +11,12 @@ use train_track::Track;
 use tri_atlas::Atlas;
 
 /// The places of the switch 1.
-fn places_of_one(alloc: Global, atlas: &Atlas, track: &Track, psi: &Map) -> Result<Vec<Place>, Fail>
+fn places_of_one(
+    alloc: Global,
+    atlas: &Atlas,
+    track: &Track,
+    psi: &Map,
+) -> Result<SwitchPlaces, Fail>
     requires { IsMapOnTrack atlas.now track.now psi.now }
 {
     let s = Label::new(1);
@@ -34,9 +39,9 @@ fn places_of_two_twists(rt: HostRuntime) -> Result<(), Fail> {
     let track = torus_track(alloc, &atlas)?;
     let found = places_of_one(alloc, &atlas, &track, &psi)?;
     assert!(rt; found.len() == 4);
-    assert!(rt; is_place(&found[0], &[-2, 2, -2], 1));
-    assert!(rt; is_place(&found[1], &[-2], 1));
-    assert!(rt; is_place(&found[2], &[-1], 1));
-    assert!(rt; is_place(&found[3], &[-1, 1, -3], 1));
+    assert!(rt; is_place(&found.place(alloc, 0)?, &[-2, 2, -2], 1));
+    assert!(rt; is_place(&found.place(alloc, 1)?, &[-2], 1));
+    assert!(rt; is_place(&found.place(alloc, 2)?, &[-1], 1));
+    assert!(rt; is_place(&found.place(alloc, 3)?, &[-1, 1, -3], 1));
     Ok(())
 }

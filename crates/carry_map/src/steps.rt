@@ -9,13 +9,13 @@ ghost use Rattle.carry_map.specs.AnchorAnswers.{IsMapOnTrack, carrying_by};
 ghost use Rattle.carry_map.specs.AnchorLaws.{AreConnected};
 ghost use Rattle.carry_map.specs.MiddleAnchors.{HavePlaces, switches_between};
 ghost use Rattle.carry_map.specs.inside.Rays.{is_listed};
-ghost use Rattle.carry_map.specs.inside.Steps.{lists_in, AreAllReached, AreFirsts, AreLasts};
+ghost use Rattle.carry_map.specs.inside.Steps.{AreAllReached, AreFirsts, AreLasts};
 ghost use Rattle.carry_map.specs.inside.Steps.{steps_along, steps_of, number_of, by_sign};
 
 use crate::heights::Step;
 use crate::paths::{first_letter, forwards, last_letter, path_letters, place_of};
 use crate::picked::{first_places, last_places};
-use crate::places::{Place, is_listed};
+use crate::places::{Place, SwitchPlaces, is_listed};
 use free_groupoid::{Map, Walk};
 use ideal_tri::{Label, Memory, label_laws, surface_laws};
 use std::alloc::Global;
@@ -28,16 +28,16 @@ pub(crate) fn steps(
     atlas: &Atlas,
     track: &Track,
     psi: &Map,
-    all: &[Vec<Place>],
+    all: &[SwitchPlaces],
 ) -> Result<Vec<Step>, Memory>
     requires map { IsMapOnTrack atlas.now track.now psi.now }
     requires places { HavePlaces (triangulation atlas.now track.now.tri) track.now.left_out
-        (substitution psi.now.images) (lists_in all.now) }
+        (substitution psi.now.images) all.now }
     requires reached { AreAllReached (triangulation atlas.now track.now.tri) track.now.left_out
-        (vertex_image psi.now) (lists_in all.now) }
+        (vertex_image psi.now) all.now }
     ensures { IfOk result (λ v. v.items ≡ steps_of track.now.switches (switches_between
         (triangulation atlas.now track.now.tri) track.now.left_out (substitution psi.now.images)
-        (lists_in all.now)) (words_of track.now.branches)) }
+        all.now) (words_of track.now.branches)) }
 {
     let firsts = first_places(alloc, all)?;
     let lasts = last_places(alloc, all)?;

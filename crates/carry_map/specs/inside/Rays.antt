@@ -13,6 +13,7 @@ use Rattle.free_groupoid.specs.GroupoidMaps.{reduced_image}
 use Rattle.train_track.specs.Tracks.{is_left_out, is_switch}
 use Rattle.train_track.specs.Branches.{words_of}
 use Rattle.carry_map.specs.Anchors.{Place}
+use Rattle.carry_map.specs.declared.places.Spot.{Spot}
 
 -- the words that the vectors hold
 abbrev pub words_in : List (Vec ℤ Global) → List (List ℤ)
@@ -93,6 +94,16 @@ places_back c (x ∷ w) =
 abbrev pub places_on : List ℤ → List ℤ → List Place
 places_on c [] = []
 places_on c (y ∷ w) = record { connect = c; label = y } ∷ places_on (c ++ (y ∷ [])) w
+
+-- along a word back or a word on, behind so many letters of it
+abbrev pub place_along : List ℤ → List ℤ → Spot → Place
+place_along back on s = record {
+  connect = take s.letters (if s.on then on else back);
+  label = s.label;
+}
+
+abbrev pub places_at : List ℤ → List ℤ → List Spot → List Place
+places_at back on spots = map (place_along back on) spots
 
 -- the label or its inverse is one of these
 unfoldable pub is_listed : List ℤ → ℤ → Bool

@@ -1,10 +1,9 @@
 -- Labels of switches by their numbers, and what is asked of heights by these numbers. The switch at
 -- place i has the number 2 i, and its inverse 2 i + 1.
-use Rattle.std.specs.Prelude.{◌≡◌, ◌<◌, ◌+◌, ◌-◌, ◌*◌, ℕ, ℤ, pos, negsuc, List, [], ◌∷◌, length, map}
-use Rattle.std.specs.Prelude.{Vec, All, slice_index, slice_index_or}
-use Rattle.std.specs.Global.{Global}
+use Rattle.std.specs.Prelude.{◌≡◌, ◌<◌, ◌+◌, ◌-◌, ◌*◌, ℕ, ℤ, pos, negsuc, List, [], ◌∷◌, length}
+use Rattle.std.specs.Prelude.{All, slice_index_or}
 use Rattle.std.specs.List.{flat_map}
-use Rattle.ideal_tri.specs.Labels.{inverse, edge_of}
+use Rattle.ideal_tri.specs.Labels.{inverse}
 use Rattle.ideal_tri.specs.Triangulations.{place_in, triangle_of}
 use Rattle.train_track.specs.Branches.{letter_at}
 use Rattle.train_track.specs.Tracks.{switches_of}
@@ -12,10 +11,6 @@ use Rattle.carry_map.specs.Anchors.{Place}
 use Rattle.carry_map.specs.CarriedMaps.{final}
 use Rattle.carry_map.specs.AnchorAnswers.{place_at, IsReachedFrom}
 use Rattle.carry_map.specs.declared.heights.Step.{Step}
-
--- the lists that the vectors hold
-abbrev pub lists_in : List (Vec Place Global) → List (List Place)
-lists_in vectors = map (λ v. v.items) vectors
 
 -- each place of each switch can be reached from the image of where the switch starts
 abbrev pub AreAllReached : List (List ℤ) → List ℤ → (ℕ → ℕ) → List (List Place) → Type 0

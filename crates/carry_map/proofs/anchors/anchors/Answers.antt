@@ -1,13 +1,14 @@
-use Rattle.std.proofs.Common.{ℕ, ℤ, List, ◌≡◌, length, sym, ◌∙◌, ap, subst, arith, to_z, of_z, w32, rules}
+use Rattle.std.proofs.Common.{ℕ, ℤ, List, ◌≡◌, ◌<◌, length, sym, ◌∙◌, ap, subst, arith, to_z, of_z, w32, rules}
 use Rattle.ideal_tri.specs.Triangulations.{IsLabel, triangle_of}
 use Rattle.tri_atlas.specs.Arena.{triangulation}
 use Rattle.free_groupoid.specs.GroupoidMaps.{substitution, vertex_image}
 use Rattle.train_track.specs.Branches.{letter_at}
 use Rattle.train_track.specs.Tracks.{switches_of}
 use Rattle.carry_map.specs.AnchorAnswers.{IsAnchored, IsReachedFrom, place_at}
-use Rattle.carry_map.proofs.FoundAnchors.{switch_read, found_more, first_found, none_found, reached_connected}
-use Rattle.carry_map.proofs.FoundAnchors.{first_reached, all_seen}
-use Rattle.carry_map.proofs.FirstOfLists.{first_of_all, none_of_all}
+use Rattle.carry_map.proofs.FoundAnchors.{switch_read, found_more, first_found, reached_connected}
+use Rattle.carry_map.proofs.FoundAnchors.{begins_with, first_reached, all_seen}
+use Rattle.carry_map.proofs.FoundPlaces.{found_none}
+use Rattle.carry_map.proofs.FirstOfLists.{first_of_all}
 use Rattle.carry_map.proofs.SwitchPlaces.{switch_label}
 use Rattle.carry_map.proofs.anchors.anchors.Goals as goal
 
@@ -18,19 +19,20 @@ places-requires-clause-label c =
     c.switches-s-items.ensures c.loop-s-test.true c.s-item.is in
     subst (IsLabel here) (sym is) (switch_label here c.args.track.now.left_out c.loop-s.s-index within)
 
-pub returns-in-None-clause-refused : goal.returns-in-None-clause-refused
-returns-in-None-clause-refused c cap =
+pub returns-then-len-eq0-clause-refused : goal.returns-then-len-eq0-clause-refused
+returns-then-len-eq0-clause-refused c cap =
     let here : List (List ℤ) = triangulation c.args.atlas.now c.args.track.now.tri in
     let (within, is) = switch_read here c.args.track.now _ c.loop-s.s-index c.s-item.result c.requires.here.on
     c.switches-s-items.ensures c.loop-s-test.true c.s-item.is in
-    let same : to_z w32 (of_z w32 c.get.result) ≡ c.get.result = search rules in (
+    let same : to_z w32 (of_z w32 c.get.result) ≡ c.get.result = search rules in
+    let none : length c.in_ok-first.first ≡ 0 = search rules in
+    let (all, are, first) = c.in_ok-first.ensures.places in (
       c.loop-s.s-index,
       record {
         within = within;
         without =
-            let (all, are, first) = c.in_ok-places.ensures.places in
-            none_found here c.args.track.now.left_out (substitution c.args.psi.now.images) c.loop-s.s-index
-            c.s-item.result all is are (none_of_all all (sym c.in-None.ensures.none ∙ first));
+            found_none here c.args.track.now.left_out (substitution c.args.psi.now.images) c.loop-s.s-index
+            c.s-item.result 1 all c.in_ok-first.first is are first (omega arith) none;
         before = λ k less. (place_at c.loop-s.anchors.items k, (c.loop-s.invariant.1 k less).0);
       },
       same ∙ c.get.ensures ∙ is,
@@ -43,19 +45,20 @@ loop-s-preserved c =
     let start : ℤ → ℕ = λ x. vertex_image c.args.psi.now (triangle_of here x) in
     let (within, is) = switch_read here c.args.track.now _ c.loop-s.s-index c.s-item.result c.requires.here.on
     c.switches-s-items.ensures c.loop-s-test.true c.s-item.is in
+    let some : 0 < length c.in_ok-first.first = search rules in
+    let (rest, begins) = begins_with c.in_ok-first.first c.in_ok-place.field-0 some c.in_ok-place.ensures in
     found_more
     (λ k p. IsAnchored here out (substitution c.args.psi.now.images) k p
     × IsReachedFrom here out (start (letter_at c.args.track.now.switches k)) p)
-    c.loop-s.anchors.items c.push.new.self.items c.loop-s.s-index c.in-Some.place c.loop-s.invariant.0
-    c.in_ok-push-in-Some.ensures.items c.loop-s.invariant.1 (
-      let (all, are, first) = c.in_ok-places.ensures.places in
-          let (rest, some) = c.in-Some.ensures.some in
-          first_found here out (substitution c.args.psi.now.images) c.loop-s.s-index c.s-item.result all c.in-Some.place is
-          are (first_of_all all c.in-Some.place rest (sym some ∙ first)),
-      subst (λ (x : ℤ). IsReachedFrom here out (start x) c.in-Some.place)
+    c.loop-s.anchors.items c.push.new.self.items c.loop-s.s-index c.in_ok-place.field-0 c.loop-s.invariant.0
+    c.in_ok-push.ensures.items c.loop-s.invariant.1 (
+      let (all, are, first) = c.in_ok-first.ensures.places in
+          first_found here out (substitution c.args.psi.now.images) c.loop-s.s-index c.s-item.result all
+          c.in_ok-place.field-0 is are (first_of_all all c.in_ok-place.field-0 rest (sym begins ∙ first)),
+      subst (λ (x : ℤ). IsReachedFrom here out (start x) c.in_ok-place.field-0)
           (is ∙ ap (λ (xs : List ℤ). letter_at xs c.loop-s.s-index) (sym c.requires.here.on.switches))
-          (first_reached here out (start c.s-item.result) _ c.in-Some.place c.in_ok-places.ensures.reached
-          c.in-Some.ensures.some),
+          (first_reached here out (start c.s-item.result) _ c.in_ok-place.field-0 c.in_ok-first.ensures.reached
+          (rest, begins)),
     )
 
 pub returns-clause-first : goal.returns-clause-first

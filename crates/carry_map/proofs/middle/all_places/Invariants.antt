@@ -1,7 +1,6 @@
 use Rattle.std.proofs.Common.{ℕ, [], ◌≡◌, ◌<◌, length, get_or}
 use Rattle.tri_atlas.specs.Arena.{triangulation}
 use Rattle.free_groupoid.specs.GroupoidMaps.{substitution, vertex_image}
-use Rattle.carry_map.specs.inside.Steps.{lists_in}
 use Rattle.carry_map.proofs.FoundPlaces.{IsFound}
 use Rattle.carry_map.proofs.middle.all_places.Given as goal
 
@@ -10,4 +9,4 @@ invariant-loop-s l =
     (length l.all.items ≡ l.s-index)
     × ((k : ℕ) → k < l.s-index
     → IsFound (triangulation l.atlas l.track.tri) l.track.left_out (substitution l.psi.images) (vertex_image l.psi) k
-    (get_or (lists_in l.all.items) k []))
+    (get_or l.all.items k []))

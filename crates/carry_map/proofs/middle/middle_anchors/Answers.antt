@@ -1,24 +1,23 @@
-use Rattle.std.proofs.Common.{ℕ, List, ◌∙◌, ap, length, subst, sym, Vec, Global}
+use Rattle.std.proofs.Common.{ℕ, List, ◌∙◌, ap, length, subst, sym}
 use Rattle.tri_atlas.specs.Arena.{triangulation}
 use Rattle.free_groupoid.specs.GroupoidMaps.{substitution, vertex_image}
 use Rattle.train_track.specs.Branches.{words_of}
-use Rattle.carry_map.specs.Anchors.{Place}
 use Rattle.carry_map.specs.MiddleAnchors.{HavePlaces}
-use Rattle.carry_map.specs.inside.Steps.{lists_in, AreAllReached}
+use Rattle.carry_map.specs.inside.Steps.{AreAllReached}
 use Rattle.carry_map.proofs.MiddleChosen.{counts_positive, steps_within, heights_long, on_within, back_within}
 use Rattle.carry_map.proofs.MiddleChosen.{numbers_within, connected, chosen}
 use Rattle.carry_map.proofs.middle.middle_anchors.Goals as goal
 
 pub steps-requires-clause-places : goal.steps-requires-clause-places
 steps-requires-clause-places c =
-    subst (λ (vs : List (Vec Place Global)). HavePlaces (triangulation c.args.atlas.now c.args.track.now.tri)
-    c.args.track.now.left_out (substitution c.args.psi.now.images) (lists_in vs))
+    subst (HavePlaces (triangulation c.args.atlas.now c.args.track.now.tri) c.args.track.now.left_out
+    (substitution c.args.psi.now.images))
     (sym c.as_slice-all.ensures.value) c.in_ok-found.ensures.places
 
 pub steps-requires-clause-reached : goal.steps-requires-clause-reached
 steps-requires-clause-reached c =
-    subst (λ (vs : List (Vec Place Global)). AreAllReached (triangulation c.args.atlas.now c.args.track.now.tri)
-    c.args.track.now.left_out (vertex_image c.args.psi.now) (lists_in vs))
+    subst (AreAllReached (triangulation c.args.atlas.now c.args.track.now.tri) c.args.track.now.left_out
+    (vertex_image c.args.psi.now))
     (sym c.as_slice-all.ensures.value) c.in_ok-found.ensures.reached
 
 pub greatest_heights-requires-clause-some : goal.greatest_heights-requires-clause-some

@@ -25,7 +25,7 @@ past backs fronts switches =
 abbrev all_of : goal.After-drop-backs-2 → List Place
 all_of c = past c.in_ok-backs.backs.items c.in_ok-fronts.fronts.items c.args.track.now.switches
 
-read : (c : goal.After-drop-backs-2) → c.in_ok-places_of_rays.field-0.items ≡ take c.args.most (all_of c)
+read : (c : goal.After-drop-backs-2) → c.in_ok-places_of_rays.field-0 ≡ take c.args.most (all_of c)
 read c =
     c.in_ok-places_of_rays.ensures
     ∙ ap (take c.args.most)

@@ -1,10 +1,12 @@
-use Rattle.std.proofs.Common.{◌≡◌, ◌≤◌, ◌++◌, length, take}
+use Rattle.std.proofs.Common.{◌≡◌, ◌≤◌, ◌++◌, ℤ, List, length, take}
+use Rattle.carry_map.specs.inside.Rays.{places_at}
 use Rattle.carry_map.proofs.ListedPlaces.{on_from}
 use Rattle.carry_map.proofs.places.push_on.Given as goal
 
 abbrev pub invariant-loop-d : goal.invariant-loop-d
 invariant-loop-d l = record {
-  few : length l.found.items ≤ l.most;
-  found : take l.most (l.found.items ++ on_from l.track.switches l.word l.d)
-      ≡ take l.most (l.initial.found.items ++ on_from l.track.switches l.word l.n);
+  few : length l.spots.items ≤ l.most;
+  places : (back : List ℤ)
+      → take l.most (places_at back l.on l.spots.items ++ on_from l.track.switches l.on l.d)
+      ≡ take l.most (places_at back l.on l.initial.spots.items ++ on_from l.track.switches l.on l.n);
 }

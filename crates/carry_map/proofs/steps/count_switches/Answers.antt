@@ -1,4 +1,4 @@
-use Rattle.std.proofs.Common.{◌≡◌, ◌+◌, ◌∙◌, ap, arith, length, List, ℤ, take_all, rules}
+use Rattle.std.proofs.Common.{◌∙◌, ap, length, List, ℤ, take_all}
 use Rattle.std.specs.List.{filter}
 use Rattle.carry_map.specs.inside.Rays.{is_listed}
 use Rattle.carry_map.proofs.steps.count_switches.Goals as goal

@@ -1,4 +1,4 @@
-use Rattle.std.proofs.Common.{ℤ, List, ◌≡◌, length, sym, ◌∙◌, ap, subst}
+use Rattle.std.proofs.Common.{ℤ, List, ◌≡◌, length, sym, ◌∙◌, ap}
 use Rattle.tri_atlas.specs.Arena.{triangulation}
 use Rattle.free_groupoid.specs.GroupoidMaps.{substitution, vertex_image}
 use Rattle.carry_map.specs.Anchors.{Place}

@@ -1,5 +1,4 @@
-use Rattle.std.proofs.Common.{◌≡◌, ◌≢◌, ◌+◌, ◌*◌, ℕ, ℤ, pos, sym, ◌∙◌, ap, subst, rules}
-use Rattle.ideal_tri.specs.Labels.{edge_of}
+use Rattle.std.proofs.Common.{◌≡◌, ◌≢◌, ℤ, sym, ◌∙◌, subst, rules}
 use Rattle.std.specs.List.{Contains}
 use Rattle.carry_map.specs.inside.Switches.{IsFirstAt}
 use Rattle.carry_map.proofs.Anchored.{backwards}

@@ -1,38 +1,35 @@
-use Rattle.std.proofs.Common.{ℕ, ℤ, List, ◌≡◌, ◌<◌, ◌≤◌, ◌-◌, [], length, get_or, sym, ◌∙◌, ap, subst, arith}
+use Rattle.std.proofs.Common.{ℕ, ℤ, List, ◌<◌, ◌≤◌, ◌-◌, [], length, get_or, sym, ◌∙◌, ap, subst}
 use Rattle.tri_atlas.specs.Arena.{triangulation}
 use Rattle.free_groupoid.specs.Walks.{DualWalk}
 use Rattle.free_groupoid.specs.GroupoidMaps.{substitution, vertex_image}
-use Rattle.train_track.specs.Branches.{IsBranch, words_of}
-use Rattle.carry_map.specs.Anchors.{Place}
+use Rattle.train_track.specs.Branches.{IsBranch}
 use Rattle.carry_map.specs.MiddleAnchors.{switches_between}
-use Rattle.carry_map.specs.inside.Steps.{lists_in, AreFirsts, AreLasts}
-use Rattle.carry_map.proofs.MiddleSteps.{lists_long, steps_more, all_steps, last_below}
+use Rattle.carry_map.specs.inside.Steps.{AreFirsts, AreLasts}
+use Rattle.carry_map.proofs.MiddleSteps.{steps_more, all_steps, last_below}
 use Rattle.carry_map.proofs.PickedPlaces.{picked_connected}
 use Rattle.carry_map.proofs.WalkLists.{read_through, words_long}
 use Rattle.carry_map.proofs.steps.steps.Goals as goal
 
 pub first_places-requires : goal.first_places-requires
-first_places-requires c i less =
-    c.requires.places.some i (subst (λ (n : ℕ). i < n) (sym (lists_long c.args.all.now)) less)
+first_places-requires c i less = c.requires.places.some i less
 
 pub last_places-requires : goal.last_places-requires
-last_places-requires c i less =
-    c.requires.places.some i (subst (λ (n : ℕ). i < n) (sym (lists_long c.args.all.now)) less)
+last_places-requires c i less = c.requires.places.some i less
 
 pub gap-requires-clause-firsts : goal.gap-requires-clause-firsts
 gap-requires-clause-firsts c =
     picked_connected (triangulation c.args.atlas.now c.args.track.now.tri) c.args.track.now.left_out
-    (vertex_image c.args.psi.now) (lists_in c.args.all.now) (λ i. 0) c.deref.result.now
+    (vertex_image c.args.psi.now) c.args.all.now (λ i. 0) c.deref.result.now
     c.requires.places.one_list_each c.requires.reached c.requires.places.some
-    (subst (AreFirsts (lists_in c.args.all.now)) (sym c.deref.ensures.value) c.in_ok-firsts.ensures)
+    (subst (AreFirsts c.args.all.now) (sym c.deref.ensures.value) c.in_ok-firsts.ensures)
 
 pub gap-requires-clause-lasts : goal.gap-requires-clause-lasts
 gap-requires-clause-lasts c =
     picked_connected (triangulation c.args.atlas.now c.args.track.now.tri) c.args.track.now.left_out
-    (vertex_image c.args.psi.now) (lists_in c.args.all.now) (λ i. length (get_or (lists_in c.args.all.now) i []) - 1)
+    (vertex_image c.args.psi.now) c.args.all.now (λ i. length (get_or c.args.all.now i []) - 1)
     c.deref-in-loop-branch.result.now c.requires.places.one_list_each c.requires.reached
-    (λ i less. last_below (length (get_or (lists_in c.args.all.now) i [])) (c.requires.places.some i less))
-    (subst (AreLasts (lists_in c.args.all.now)) (sym c.deref-in-loop-branch.ensures.value) c.in_ok-lasts.ensures)
+    (λ i less. last_below (length (get_or c.args.all.now i [])) (c.requires.places.some i less))
+    (subst (AreLasts c.args.all.now) (sym c.deref-in-loop-branch.ensures.value) c.in_ok-lasts.ensures)
 
 pub gap-requires-clause-branch : goal.gap-requires-clause-branch
 gap-requires-clause-branch c =
@@ -67,22 +64,22 @@ loop-branch-preserved c =
     subst (λ (bs : List DualWalk). c.loop-branch.branch-index < length bs) c.branches-branch-items.ensures
     c.loop-branch-test.true in
     steps_more c.args.track.now.switches
-    (switches_between here c.args.track.now.left_out (substitution c.args.psi.now.images) (lists_in c.args.all.now))
+    (switches_between here c.args.track.now.left_out (substitution c.args.psi.now.images) c.args.all.now)
     c.args.track.now.branches c.loop-branch.steps.items c.push_steps.new.steps.items c.in_ok-gap.gap
     c.loop-branch.branch-index c.branch-item.result less
     (c.branch-item.is ∙ ap (λ (bs : List DualWalk). get_or bs c.loop-branch.branch-index c.branch-item.result)
     c.branches-branch-items.ensures)
     c.loop-branch.invariant
-    (c.in_ok-gap.ensures (lists_in c.args.all.now)
-    (subst (AreFirsts (lists_in c.args.all.now)) (sym c.deref.ensures.value) c.in_ok-firsts.ensures)
-    (subst (AreLasts (lists_in c.args.all.now)) (sym c.deref-in-loop-branch.ensures.value) c.in_ok-lasts.ensures))
+    (c.in_ok-gap.ensures c.args.all.now
+    (subst (AreFirsts c.args.all.now) (sym c.deref.ensures.value) c.in_ok-firsts.ensures)
+    (subst (AreLasts c.args.all.now) (sym c.deref-in-loop-branch.ensures.value) c.in_ok-lasts.ensures))
     c.in_ok-push_steps.ensures
 
 pub returns : goal.returns
 returns c =
     all_steps c.args.track.now.switches
     (switches_between (triangulation c.args.atlas.now c.args.track.now.tri) c.args.track.now.left_out
-    (substitution c.args.psi.now.images) (lists_in c.args.all.now))
+    (substitution c.args.psi.now.images) c.args.all.now)
     c.args.track.now.branches c.loop-branch.steps.items c.loop-branch.branch-index
     (subst (λ (bs : List DualWalk). length bs ≤ c.loop-branch.branch-index) c.branches-branch-items.ensures
     c.loop-branch-test.false)
