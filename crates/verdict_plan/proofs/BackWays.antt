@@ -27,7 +27,7 @@ use Rattle.verdict_plan.specs.declared.ways.Way.{Way}
 
 -- ---- the first move past the cap
 
-past_on : (triples : List (List ℤ)) (moves more : List Move) (cap made letters : ℕ)
+pub past_on : (triples : List (List ℤ)) (moves more : List Move) (cap made letters : ℕ)
     → IsFirstPast triples moves cap made letters → IsFirstPast triples (moves ++ more) cap made letters
 past_on triples moves more cap made letters h =
     let inside : made < length moves = h.more_moves in
@@ -48,7 +48,7 @@ module _ (arena : Arena) (word : MovePath) (s : Stage) (times : ℕ) where
   back_moves = back_along (moves_of arena s.path) ++ repeat times (moves_of arena word)
 
   -- what the path of a candidate does behind it
-  path_from : WayLaws → IsKept arena s → (power : ℕ) → times ≤ power
+  pub path_from : WayLaws → IsKept arena s → (power : ℕ) → times ≤ power
       → path_at arena word s power
       ≡ back_moves ++ (repeat (power - times) (moves_of arena word) ++ moves_of arena s.path)
   path_from ways kept power enough =

@@ -21,3 +21,10 @@ pub cycle_words : (triples words : List (List ℤ)) (walks : List DualWalk) → 
     → AreCycles triples (words_of walks)
 cycle_words triples words walks h =
     subst (AreCycles triples) (sym (ap words_of h.1 ∙ letters_back triples words)) h.0
+
+-- the same where what is given is equal to what is meant
+pub given_cycles : (triples given words : List (List ℤ)) (walks read : List DualWalk) → given ≡ triples → read ≡ walks
+    → AreCycleWalks given words walks → AreCycles triples (words_of read)
+given_cycles triples given words walks read e is h =
+    cycle_words triples words read
+    (subst (λ (ts : List (List ℤ)). AreCycleWalks ts words read) e (subst (AreCycleWalks given words) (sym is) h))

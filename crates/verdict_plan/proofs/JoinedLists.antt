@@ -45,9 +45,10 @@ module _ (triples : List (List ℤ)) (moves : List Move) (budget : ℕ) where
     pub tracks_within : length first ≤ budget
     tracks_within = let each = fail.one_line_each in omega arith
 
-    -- these are all
-    pub first_tracks_alone : AreNoFurther triples budget → AreFailedTracks triples moves budget first
-    first_tracks_alone none = (first, [], sym (append-nil first), fail, inl (none, refl))
+    -- with no further ones these are all
+    pub tracks_alone : (further : List TrackLine) → AreNoFurther triples budget → further ≡ []
+        → AreFailedTracks triples moves budget (first ++ further)
+    tracks_alone further none empty = (first, further, refl, fail, inl (none, empty))
 
     module _ (w : List ℕ) (enough : further_budget ≤ budget) (opened : IsOpenCycle triples w) where
       -- the further ones fail too

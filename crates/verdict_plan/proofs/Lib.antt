@@ -24,3 +24,7 @@ pub mod JoinedLists
 pub mod LightCorners
 pub mod Reached
 pub mod TrackOutcomes
+pub mod PastLines
+pub mod CurveLengths
+pub mod FirstPasts
+pub mod PastCandidates

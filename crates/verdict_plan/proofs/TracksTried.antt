@@ -3,8 +3,8 @@
 -- What holds of a candidate in the grown atlas holds of it by the word's moves over the base as they were, since both
 -- are the same. A candidate whose site passes with some certificate has the power and the flips of that certificate;
 -- there are at most 32 depths, so it has at most 31 flips, and a power from 1 to 4.
-use Rattle.std.proofs.Common.{◌≡◌, ◌<◌, ◌≤◌, ◌+◌, ◌*◌, ◌/◌, ◌%◌, ◌++◌, ℕ, ℤ, List, [], ◌∷◌, length}
-use Rattle.std.proofs.Common.{get_or, inl, inr, refl, sym, ◌∙◌, ap, subst, arith}
+use Rattle.std.proofs.Common.{◌≡◌, ◌<◌, ◌≤◌, ◌+◌, ◌*◌, ◌/◌, ◌%◌, ◌++◌, ◌⊎◌, ℕ, ℤ, List, [], ◌∷◌, length}
+use Rattle.std.proofs.Common.{IfSome, IfNone, Option, Some, None, Err, get_or, inl, inr, refl, sym, ◌∙◌, ap, subst, arith}
 use Rattle.std.proofs.lemmas.Bool.{cases_eq}
 use Rattle.std.proofs.lemmas.List.{length-append, length-map, get_or_append_left}
 use Rattle.std.proofs.Math.Nat.{div-lt_iff_lt-mul}
@@ -31,7 +31,8 @@ use Rattle.verdict_plan.specs.declared.series.Series.TheVariants.{First}
 use Rattle.verdict_plan.specs.inside.Sites.{IsLineWith, IsSiteOf, IsStanding, corners_at}
 use Rattle.cycle_stages.specs.KeptStages.{there, IsKept, IsStageIn}
 use Rattle.verdict_plan.specs.inside.Trials.{IsSoundPass, PassLaw}
-use Rattle.verdict_plan.specs.inside.Turns.{AreLines, IsPassAt, IsTrial}
+use Rattle.verdict_plan.specs.inside.Turns.{AreLines, AreSomeLines, IsPassAt, IsTold, IsToldAt, IsTrial}
+use Rattle.verdict_plan.specs.inside.QuickAnswers.{AreFailing}
 use Rattle.verdict_plan.specs.declared.sites.Site.{Site}
 use Rattle.cycle_stages.specs.declared.stages.Stage.{Stage}
 use Rattle.verdict_plan.specs.declared.trials.Trial.{Trial}
@@ -126,6 +127,21 @@ site_tried arena word walks n site at trial tried =
       standing = subst (λ (s : Stage). IsStanding arena word s (power_of words n) trial.site.standing) same stands;
     }
 
+-- one that fails has a line, whether it is told or not
+pub told_line : (arena : Arena) (word : MovePath) (s : Stage) (power : ℕ) (told : Option TrackLine)
+    → IsToldAt arena word s power (Err told)
+    → (line : TrackLine) × IsLineWith arena word s power line × ((told ≡ Some line) ⊎ (told ≡ None))
+told_line arena word s power (Some line) h = (line, h, inl refl)
+told_line arena word s power None (line, h) = (line, h, inr refl)
+
+-- a line that is told makes the log longer by one
+pub line_added : (n : ℕ) (log new : List TrackLine) (told : Option TrackLine) → IsTold (Err told) → length log ≡ n
+    → IfSome told (λ x. new ≡ log ++ (x ∷ [])) → length new ≡ n + 1
+line_added n log new (Some line) has long more =
+    let longer : length new ≡ length (log ++ line ∷ []) = ap length more in
+    omega (arith, longer, length-append log (line ∷ []), long)
+line_added n log new None has long more = absurd has
+
 -- ---- all candidates
 
 module _ (triples : List (List ℤ)) (moves : List Move) (cycles : List (List ℤ)) where
@@ -177,6 +193,48 @@ module _ (triples : List (List ℤ)) (moves : List Move) (cycles : List (List �
         one_line_each = h.one_line_each ∙ full;
         lines = h.lines;
       }
+
+  -- one candidate more, whose line is told or not
+  pub some_more : (n : ℕ) (log new : List TrackLine) (told : Option TrackLine) (line : TrackLine)
+      → AreSomeLines triples moves cycles n log → IsLineAt triples moves cycles n line
+      → (told ≡ Some line) ⊎ (told ≡ None) → IfSome told (λ x. new ≡ log ++ (x ∷ []))
+      → IfNone told (new ≡ log) → AreSomeLines triples moves cycles (n + 1) new
+  some_more n log new told line h fails which more same = record {
+    lines = h.lines ++ line ∷ [];
+    are = lines_more n h.lines h.are line (h.lines ++ line ∷ []) fails refl;
+    few = elim which [
+      | inl e ↦
+          let is : new ≡ log ++ line ∷ [] = rw e at more in
+          let long : length new ≡ length (log ++ line ∷ []) = ap length is in
+          omega (arith, long, length-append log (line ∷ []), h.few)
+      | inr e ↦
+          let is : new ≡ log = rw e at same in
+          let long : length new ≡ length log = ap length is in
+          omega (arith, long, h.few)
+    ];
+    whole = λ full. elim which [
+      | inl e ↦
+          let is : new ≡ log ++ line ∷ [] = rw e at more in
+          let long : length new ≡ length (log ++ line ∷ []) = ap length is in
+          is ∙ ap (λ (ls : List TrackLine). ls ++ line ∷ [])
+          (h.whole (omega (arith, long, length-append log (line ∷ []), full)))
+      | inr e ↦
+          let is : new ≡ log = rw e at same in
+          let long : length new ≡ length log = ap length is in
+          absurd (omega (arith, long, h.few, full))
+    ];
+  }
+
+  -- so many candidates, all that there are, fail
+  pub all_failing : (budget count : ℕ) (log : List TrackLine) → AreCycles triples cycles
+      → AreSomeLines triples moves cycles count log → count ≡ track_count cycles budget
+      → AreFailing triples moves budget (track_count cycles budget) log
+  all_failing budget count log are h full = record {
+    lines = h.lines;
+    are = no_tracks count h.lines h.are are budget full;
+    many = h.are.one_line_each ∙ full;
+    whole = λ long. h.whole (long ∙ sym full);
+  }
 
 -- ---- the turn of a candidate, in the grown atlas
 

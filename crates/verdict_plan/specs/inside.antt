@@ -2,6 +2,8 @@ pub mod FurtherSites
 pub mod FurtherStages
 pub mod Known
 pub mod OpenStages
+pub mod PastCap
+pub mod QuickAnswers
 pub mod Sites
 pub mod Trials
 pub mod Tried

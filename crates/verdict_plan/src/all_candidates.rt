@@ -3,25 +3,30 @@
 //! The further candidates for a multicurve and those for a carried track are made of the same stages:
 //! those of the first cycle that is nonperipheral. Where the budget is below 256, or there is no such
 //! cycle, there are no further candidates.
-ghost use Rattle.std.specs.Prelude.{◌≡◌, ◌<◌, ◌≤◌, ◌+◌, IfOk};
+ghost use Rattle.std.specs.Prelude.{◌≡◌, ◌<◌, ◌≤◌, ◌+◌, ◌++◌, List, length, IfOk};
 ghost use Rattle.tri_atlas.specs.Arena.{Grows, triangulation};
 ghost use Rattle.tri_atlas.specs.Paths.{moves_of};
 ghost use Rattle.multicurve_cert.specs.CurveAnswers.{AreAllFailing, IsFoundIn};
 ghost use Rattle.surface_lib.specs.Surfaces.{IsLoop};
 ghost use Rattle.verdict_plan.specs.AllCandidates.{IsAllCurvesAnswer, IsTracksAnswer};
 ghost use Rattle.verdict_plan.specs.Budgets.{curve_limit, track_limit};
-ghost use Rattle.verdict_plan.specs.FirstTracks.{AreNoTracks, HoldsWhereFound};
+ghost use Rattle.verdict_plan.specs.FirstTracks.{AreNoTracks, HoldsWhereFound, track_count};
 ghost use Rattle.verdict_plan.specs.FurtherTracks.{further_count};
 ghost use Rattle.verdict_plan.specs.inside.OpenStages.{AreFurtherStages};
+ghost use Rattle.verdict_plan.specs.inside.QuickAnswers.{AreFailing, IsAnswerBehind};
+ghost use Rattle.cert_text.specs.declared.lines.TrackLine.{TrackLine as AnyLine};
+ghost use Rattle.multicurve_cert.specs.Cycles.{AreCycles};
+ghost use Rattle.train_track.specs.Branches.{words_of};
 
 use crate::further_search::search_further;
-use crate::track_search::{Tracks, search_first};
+use crate::track_search::{Tracks, search_first, track_count};
 use cert_text::TrackLine;
 use cycle_stages::{Stage, open_cycle, stage_laws, stages_of};
 use edge_coords::CurveLine;
+use free_groupoid::Walk;
 use ideal_tri::Memory;
 use light_curves::search_light;
-use multicurve_cert::Curves;
+use multicurve_cert::{Curves, cycles};
 use std::alloc::Global;
 use tri_atlas::{Atlas, Path, atlas_laws};
 
@@ -115,7 +120,8 @@ pub(crate) fn further_curves(
 }
 
 /// Tries the candidates for a carried track in order, the first ones and then the further ones, which
-/// are made of these stages.
+/// are made of these stages. The lines of first ones that are left out at first are looked for where
+/// all fail.
 pub(crate) fn search_all(
     alloc: Global,
     atlas: &mut Atlas,
@@ -135,50 +141,109 @@ pub(crate) fn search_all(
     let _ = atlas.base();
     atlas_laws();
     stage_laws();
-    match search_first(alloc, atlas, word, budget)? {
+    let found = cycles(alloc, atlas.tri(atlas.base()))?;
+    let cycles = found.as_slice();
+    let count = track_count(cycles.len(), budget);
+    match search_first(alloc, atlas, word, cycles, budget, false)? {
         Tracks::Found { number, pa } => Ok(Tracks::Found { number, pa }),
-        Tracks::None { log } => further_tracks(alloc, atlas, word, budget, stages, log),
+        Tracks::None { log } => {
+            search_behind(alloc, atlas, word, budget, stages, cycles, count, log)
+        }
     }
 }
 
-/// Goes on with the further candidates for a carried track, where the first ones fail and have these
-/// lines.
-fn further_tracks(
+/// Goes on where all first candidates fail, so many, and have these lines, as far as they were looked
+/// for.
+fn search_behind(
     alloc: Global,
     atlas: &mut Atlas,
     word: &Path,
     budget: u32,
     stages: &[Stage],
-    first: Vec<TrackLine>,
+    cycles: &[Walk],
+    count: u32,
+    log: Vec<TrackLine>,
 ) -> Result<Tracks, Memory>
     requires closed { IsLoop atlas.old word.now }
     requires budget { budget ≤ track_limit }
     requires stages { AreFurtherStages atlas.old word.now budget stages.now }
-    requires first { AreNoTracks (triangulation atlas.old 0) (moves_of atlas.old word.now) budget
-        first.items }
+    requires cycles { AreCycles (triangulation atlas.old 0) (words_of cycles.now) }
+    requires some { 0 < length cycles.now }
+    requires count { count ≡ track_count (words_of cycles.now) budget }
+    requires first { AreFailing (triangulation atlas.old 0) (moves_of atlas.old word.now) budget count
+        log.items }
     ensures answer { IfOk result (IsTracksAnswer (triangulation atlas.old 0)
         (moves_of atlas.old word.now) budget) }
     ensures holds { IfOk result (HoldsWhereFound (triangulation atlas.old 0)
         (moves_of atlas.old word.now)) }
     ensures grows { Grows atlas.old atlas.new }
 {
+    let _ = atlas.base();
     atlas_laws();
+    match further_tracks(alloc, atlas, word, budget, stages, count)? {
+        Tracks::Found { number, pa } => Ok(Tracks::Found { number, pa }),
+        Tracks::None { log: further } => {
+            if log.len() == count as usize {
+                return Ok(Tracks::None {
+                    log: joined(log, &further)?,
+                });
+            }
+            match search_first(alloc, atlas, word, cycles, budget, true)? {
+                Tracks::Found { number, pa } => Ok(Tracks::Found { number, pa }),
+                Tracks::None { log } => Ok(Tracks::None {
+                    log: joined(log, &further)?,
+                }),
+            }
+        }
+    }
+}
+
+/// The lines of the first candidates, and behind them those of the further ones.
+fn joined(first: Vec<TrackLine>, further: &[TrackLine]) -> Result<Vec<TrackLine>, Memory>
+    ensures { IfOk result (λ log. log.items ≡ first.items ++ further.now) }
+{
     let mut log = first;
+    log.extend_from_slice(further)?;
+    Ok(log)
+}
+
+/// Tries the further candidates for a carried track, where the first ones fail, so many.
+fn further_tracks(
+    alloc: Global,
+    atlas: &mut Atlas,
+    word: &Path,
+    budget: u32,
+    stages: &[Stage],
+    count: u32,
+) -> Result<Tracks, Memory>
+    requires closed { IsLoop atlas.old word.now }
+    requires budget { budget ≤ track_limit }
+    requires stages { AreFurtherStages atlas.old word.now budget stages.now }
+    requires first { (lines : List AnyLine) × AreNoTracks (triangulation atlas.old 0)
+        (moves_of atlas.old word.now) budget lines × (length lines ≡ count) }
+    ensures answer { IfOk result (IsAnswerBehind (triangulation atlas.old 0)
+        (moves_of atlas.old word.now) budget) }
+    ensures holds { IfOk result (HoldsWhereFound (triangulation atlas.old 0)
+        (moves_of atlas.old word.now)) }
+    ensures grows { Grows atlas.old atlas.new }
+{
+    atlas_laws();
     if budget < FURTHER_BUDGET {
-        return Ok(Tracks::None { log });
+        return Ok(Tracks::None {
+            log: Vec::new(alloc),
+        });
     }
     if stages.is_empty() {
-        return Ok(Tracks::None { log });
+        return Ok(Tracks::None {
+            log: Vec::new(alloc),
+        });
     }
     match search_further(alloc, atlas, word, stages)? {
         Tracks::Found { number, pa } => Ok(Tracks::Found {
-            number: number_behind(log.len(), number),
+            number: number_behind(count as usize, number),
             pa,
         }),
-        Tracks::None { log: further } => {
-            log.extend_from_slice(&further)?;
-            Ok(Tracks::None { log })
-        }
+        Tracks::None { log } => Ok(Tracks::None { log }),
     }
 }
 

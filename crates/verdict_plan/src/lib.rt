@@ -12,7 +12,8 @@
 //! a verdict.
 //!
 //! `search_tracks` tries the candidates for a train track that a power of the word carries: the first
-//! ones, and then the further ones.
+//! ones, and then the further ones. Where the image of a curve shows that the map of a candidate has
+//! more letters than the cap, its line is looked for only where all candidates fail.
 //!
 //! The definitions stand in `specs/`: `Budgets` (the limits), `Verdicts`, `TrackTests` (the tests of
 //! one candidate for a track), `FirstTracks`, `FurtherTracks` and `AllCandidates`.
@@ -24,6 +25,7 @@ mod certificates;
 mod further_search;
 mod known;
 mod light_corners;
+mod past;
 mod plan;
 mod power_phase;
 mod progress;

@@ -1,5 +1,8 @@
 //! Searches for a carried track on the once-punctured torus.
-use crate::track_search::{Tracks, search_first};
+ghost use Rattle.std.specs.Prelude.{◌≤◌};
+ghost use Rattle.verdict_plan.specs.Budgets.{track_limit};
+
+use crate::{Tracks, search_tracks};
 use cert_text::TrackLine;
 use std::alloc::{AllocGlobal, Global};
 use std::process::Abort;
@@ -12,11 +15,13 @@ fn all_fail(
     word: &str,
     budget: u32,
     line: TrackLine,
-) -> Result<bool, Fail> {
+) -> Result<bool, Fail>
+    requires { budget ≤ track_limit }
+{
     let alloc: Global = rt.alloc();
     let mut s = builtin(alloc, "S_1_1")?;
     let path = read_word(alloc, &s, word)?;
-    match search_first(alloc, &mut s.atlas, &path, budget)? {
+    match search_tracks(alloc, &mut s.atlas, &path, budget)? {
         Tracks::Found { .. } => Ok(false),
         Tracks::None { log } => {
             Ok(log.len() == budget as usize && log.iter().all(|l| *l == line))
@@ -40,7 +45,7 @@ fn first_passes(rt: HostRuntime) -> Result<(), Fail> {
     let alloc: Global = rt.alloc();
     let mut s = builtin(alloc, "S_1_1")?;
     let path = read_word(alloc, &s, "a.b")?;
-    match search_first(alloc, &mut s.atlas, &path, 1)? {
+    match search_tracks(alloc, &mut s.atlas, &path, 1)? {
         Tracks::Found { number, pa } => assert_eq!(rt; (number, pa.power), (0, 1)),
         Tracks::None { .. } => assert!(rt; false),
     }

@@ -1,6 +1,6 @@
 -- The cycles take turns: one candidate of each in a round.
-use Rattle.std.specs.Prelude.{◌≡◌, ◌<◌, ◌+◌, ◌/◌, ◌%◌, ℕ, ℤ, List, length, min, slice_index_or}
-use Rattle.std.specs.Prelude.{Result, Ok, Err}
+use Rattle.std.specs.Prelude.{◌≡◌, ◌<◌, ◌≤◌, ◌+◌, ◌/◌, ◌%◌, ℕ, ℤ, List, length, min, slice_index_or}
+use Rattle.std.specs.Prelude.{Result, Ok, Err, Option, Some, None}
 use Rattle.tri_atlas.specs.Arena.{Arena}
 use Rattle.tri_atlas.specs.Moves.{Move}
 use Rattle.tri_atlas.specs.Paths.{MovePath}
@@ -50,12 +50,24 @@ abbrev pub IsOutcomeAt : Arena → MovePath → Stage → ℕ → Result Pa Trac
 IsOutcomeAt arena word s power (Ok pa) = IsPassAt arena word s power (track_seen pa)
 IsOutcomeAt arena word s power (Err line) = IsLineWith arena word s power line
 
+-- what is told of it: of one that fails, its line, or only that it has one
+abbrev pub IsToldAt : Arena → MovePath → Stage → ℕ → Result Pa (Option TrackLine) → Type 0
+IsToldAt arena word s power (Ok pa) = IsPassAt arena word s power (track_seen pa)
+IsToldAt arena word s power (Err (Some line)) = IsLineWith arena word s power line
+IsToldAt arena word s power (Err None) = (line : TrackLine) × IsLineWith arena word s power line
+
+-- its line, where it fails
+abbrev pub IsTold : Result Pa (Option TrackLine) → Type 0
+IsTold (Ok pa) = Unit {0}
+IsTold (Err (Some line)) = Unit {0}
+IsTold (Err None) = ⊥
+
 -- the candidate with this power at the stage was tried
 pub record IsTrial (arena : Arena) (word : MovePath) (s : Stage) (power : ℕ) (trial : Trial)
     : Type 0 where
   pub stage : trial.site.stage ≡ s
   pub standing : IsStanding arena word s power trial.site.standing
-  pub outcome : IsOutcomeAt arena word s power trial.outcome
+  pub outcome : IsToldAt arena word s power trial.outcome
 
 -- the first n candidates have these lines
 pub record AreLines (triples : List (List ℤ)) (moves : List Move) (cycles : List (List ℤ)) (n : ℕ)
@@ -63,3 +75,11 @@ pub record AreLines (triples : List (List ℤ)) (moves : List Move) (cycles : Li
   pub one_line_each : length log ≡ n
   pub lines : (k : ℕ) (line : TrackLine) → k < length log
       → IsLineAt triples moves cycles k (slice_index_or log k line)
+
+-- the first n candidates have some lines, and the log those of them that were looked for
+pub record AreSomeLines (triples : List (List ℤ)) (moves : List Move) (cycles : List (List ℤ))
+    (n : ℕ) (log : List TrackLine) : Type 0 where
+  pub lines : List TrackLine
+  pub are : AreLines triples moves cycles n lines
+  pub few : length log ≤ n
+  pub whole : length log ≡ n → log ≡ lines
