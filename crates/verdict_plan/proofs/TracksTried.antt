@@ -145,12 +145,6 @@ line_added n log new None has long more = absurd has
 -- ---- all candidates
 
 module _ (triples : List (List ℤ)) (moves : List Move) (cycles : List (List ℤ)) where
-  pub no_lines : (log : List TrackLine) → log ≡ [] → AreLines triples moves cycles 0 log
-  no_lines log none = subst (AreLines triples moves cycles 0) (sym none) (record {
-    one_line_each = refl;
-    lines = λ k line inside. absurd (omega (arith, inside));
-  })
-
   module _ (n : ℕ) (log : List TrackLine) (h : AreLines triples moves cycles n log) where
     -- one more line
     pub lines_more : (line : TrackLine) (more : List TrackLine) → IsLineAt triples moves cycles n line

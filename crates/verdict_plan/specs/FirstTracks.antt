@@ -74,14 +74,6 @@ pub record AreNoTracks (triples : List (List ℤ)) (moves : List Move) (budget :
   pub lines : (n : ℕ) (line : TrackLine) → n < length log
       → IsLineAt triples moves cycles n (slice_index_or log n line)
 
--- ---- answers
-
--- the answer of the search among the first candidates
-abbrev pub IsFirstTracksAnswer : List (List ℤ) → List Move → ℕ → Tracks → Type 0
-IsFirstTracksAnswer triples moves budget (Found number pa) =
-    IsFirstTrack triples moves budget number (track_seen pa)
-IsFirstTracksAnswer triples moves budget (None log) = AreNoTracks triples moves budget log.items
-
 -- the certificate of what is found holds
 abbrev pub HoldsWhereFound : List (List ℤ) → List Move → Tracks → Type 0
 HoldsWhereFound triples moves (Found number pa) =
