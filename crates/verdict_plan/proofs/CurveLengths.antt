@@ -8,7 +8,6 @@ use Rattle.std.proofs.Common.{◌≡◌, ◌<◌, ◌≤◌, ◌+◌, ◌*◌, �
 use Rattle.std.proofs.Common.{List, [], ◌∷◌, length, take, slice_index, nat_eq, sum, sum_by, count_by, All}
 use Rattle.std.proofs.Common.{inl, inr, refl, sym, ◌∙◌, ap, subst, arith, length-append, add-one}
 use Rattle.std.specs.List.{flat_map}
-use Rattle.std.specs.Ordering.{int_eq}
 use Rattle.std.proofs.Math.Nat.{le_trans, mul-le-mul_right}
 use Rattle.std.proofs.lemmas.Bool.{cases_eq, cases_lt, eq-eqb, ne_eqb}
 use Rattle.std.proofs.lemmas.List.{take_all}
@@ -16,7 +15,8 @@ use Rattle.std.proofs.lemmas.List.Concat.{flat_map-append, length-flat_map}
 use Rattle.std.proofs.lemmas.List.Elements.{All-head, All-tail}
 use Rattle.std.proofs.lemmas.List.Sums.{sum_by-cons, sum_by_more, sum_by-le-sum_by}
 use Rattle.ideal_tri.specs.Labels.{inverse, edge_of}
-use Rattle.ideal_tri.specs.Words.{inverse_word, push, act, reduce, last_of, but_last, strip, cyclic_reduce}
+use Rattle.ideal_tri.specs.Words.{cyclic_reduce}
+use Rattle.ideal_tri.specs.WordLaws.{WordLaws}
 use Rattle.ideal_tri.specs.Curves.{crossings}
 use Rattle.ideal_tri.specs.Triangulations.{IsWalk, edge_count, triangle_of}
 use Rattle.ideal_tri.specs.Vectors.{IsMulticurve}
@@ -25,60 +25,16 @@ use Rattle.ideal_tri.specs.Drawings.{draw}
 use Rattle.ideal_tri.specs.DrawingLaws.{DrawingLaws}
 use Rattle.tri_atlas.specs.Maps.{IsOdd, IsImageVector, images_under, letters_below, letters_of}
 
--- ---- words that grow no longer
-
--- a choice of two words is no longer than n where both are so
-choice_short : (b : Bool) (u v : List ℤ) (n : ℕ) → length u ≤ n → length v ≤ n → length (cond b u v) ≤ n
-choice_short true u v n first second = first
-choice_short false u v n first second = second
-
--- a letter in front takes at most its own place
-push_short : (x : ℤ) (w : List ℤ) → length (push x w) ≤ length w + 1
-push_short x [] = omega arith
-push_short x (y ∷ w) =
-    choice_short (int_eq y (inverse x)) w (x ∷ (y ∷ w)) (length (y ∷ w) + 1) (omega arith) (omega arith)
-
--- and so a word in front
-act_short : (u w : List ℤ) → length (act u w) ≤ length u + length w
-act_short [] w = omega arith
-act_short (x ∷ u) w =
-    let rest : length (act u w) ≤ length u + length w = act_short u w in
-    let first : length (push x (act u w)) ≤ length (act u w) + 1 = push_short x (act u w) in omega arith
-
--- a word without its last letter is no longer
-but_last_short : (w : List ℤ) → length (but_last w) ≤ length w
-but_last_short [] = omega arith
-but_last_short (x ∷ []) = omega arith
-but_last_short (x ∷ (y ∷ w)) =
-    let rest : length (but_last (y ∷ w)) ≤ length (y ∷ w) = but_last_short (y ∷ w) in omega arith
-
--- nor is a word without matching ends
-strip_short : (n : ℕ) (w : List ℤ) → length (strip n w) ≤ length w
-unfolding strip
-strip_short zero w = omega arith
-strip_short (suc n) [] = omega arith
-strip_short (suc n) (x ∷ w) =
-    let inner : length (strip n (but_last w)) ≤ length (but_last w) = strip_short n (but_last w) in
-    let shorter : length (but_last w) ≤ length w = but_last_short w in
-    choice_short (int_eq (last_of x w) (inverse x)) (strip n (but_last w)) (x ∷ w) (length (x ∷ w)) (omega arith)
-    (omega arith)
-
--- so the cyclic reduction of a word is no longer than the word
-cyclic_short : (w : List ℤ) → length (cyclic_reduce w) ≤ length w
-unfolding cyclic_reduce
-cyclic_short w =
-    let outer : length (strip (length (reduce w)) (reduce w)) ≤ length (reduce w) =
-    strip_short (length (reduce w)) (reduce w) in
-    let inner : length (act w []) ≤ length w + 0 = act_short w [] in omega arith
+-- ---- images
 
 -- the images of words are together no longer than the image of the words one after another
-images_short : (f : ℤ → List ℤ) (ws : List (List ℤ))
+images_short : WordLaws → (f : ℤ → List ℤ) (ws : List (List ℤ))
     → length (flat_map (λ w. w) (images_under f ws)) ≤ length (flat_map f (flat_map (λ w. w) ws))
-images_short f [] = omega arith
-images_short f (w ∷ ws) =
+images_short words f [] = omega arith
+images_short words f (w ∷ ws) =
     let rest : length (flat_map (λ u. u) (images_under f ws)) ≤ length (flat_map f (flat_map (λ u. u) ws)) =
-    images_short f ws in
-    let first : length (cyclic_reduce (flat_map f w)) ≤ length (flat_map f w) = cyclic_short (flat_map f w) in
+    images_short words f ws in
+    let first : length (cyclic_reduce (flat_map f w)) ≤ length (flat_map f w) = words.cyclic.no_longer (flat_map f w) in
     let parts : length (cyclic_reduce (flat_map f w) ++ flat_map (λ u. u) (images_under f ws))
     ≡ length (cyclic_reduce (flat_map f w)) + length (flat_map (λ u. u) (images_under f ws)) =
     length-append (cyclic_reduce (flat_map f w)) (flat_map (λ u. u) (images_under f ws)) in
@@ -260,18 +216,10 @@ walks_below ts (w ∷ ws) walks =
 
 -- ---- lengths of images
 
--- the way back along a word is as long
-inverse_long : (w : List ℤ) → length (inverse_word w) ≡ length w
-inverse_long [] = refl
-inverse_long (x ∷ w) =
-    let rest : length (inverse_word w) ≡ length w = inverse_long w in
-    let joined : length (inverse_word w ++ (inverse x ∷ [])) ≡ length (inverse_word w) + 1 =
-    length-append (inverse_word w) (inverse x ∷ []) in omega (arith, rest, joined)
-
 -- the image of a letter is as long as that of the label of its edge
-letter_long : (f : ℤ → List ℤ) → IsOdd f → (x : ℤ) → length (f x) ≡ length (f (pos (edge_of x)))
-letter_long f odd (pos n) = refl
-letter_long f odd (negsuc n) = ap length (odd (pos n)) ∙ inverse_long (f (pos n))
+letter_long : WordLaws → (f : ℤ → List ℤ) → IsOdd f → (x : ℤ) → length (f x) ≡ length (f (pos (edge_of x)))
+letter_long words f odd (pos n) = refl
+letter_long words f odd (negsuc n) = ap length (odd (pos n)) ∙ words.inverses.as_long (f (pos n))
 
 -- the letters of a map are summed over the edges
 letters_are : (f : ℤ → List ℤ) (n : ℕ) → letters_below n f ≡ sum_below (λ e. length (f (pos e))) n
@@ -294,14 +242,14 @@ crossings_most ws n =
     omega (arith, counted, ones_long (flat_map (λ w. w) ws))
 
 -- the image of a word that crosses each edge at most so often has at most that many times the letters of the map
-crossed_letters : (f : ℤ → List ℤ) → IsOdd f → (n most : ℕ) (w : List ℤ) → AreBelow n w
+crossed_letters : WordLaws → (f : ℤ → List ℤ) → IsOdd f → (n most : ℕ) (w : List ℤ) → AreBelow n w
     → ((e : ℕ) → e < n → count_by (λ x. nat_eq (edge_of x) e) w ≤ most)
     → length (flat_map f w) ≤ most * letters_below n f
-crossed_letters f odd n most w below few =
+crossed_letters words f odd n most w below few =
     let long : length (flat_map f w) ≡ sum_by (λ x. length (f x)) w = length-flat_map f w in
     let edges : sum_by (λ x. length (f x)) w ≤ sum_by (λ x. length (f (pos (edge_of x)))) w =
     sum_by-le-sum_by (λ x. length (f x)) (λ x. length (f (pos (edge_of x)))) w
-    (λ x. let same = letter_long f odd x in omega (arith, same)) in
+    (λ x. let same = letter_long words f odd x in omega (arith, same)) in
     let parts : sum_by (λ x. length (f (pos (edge_of x)))) w ≡ sum_below (on_edge (λ e. length (f (pos e))) w) n =
     on_edges_all (λ e. length (f (pos e))) w n below in
     let each : sum_below (on_edge (λ e. length (f (pos e))) w) n ≤ sum_below (λ e. most * length (f (pos e))) n =
@@ -317,10 +265,10 @@ crossed_letters f odd n most w below few =
     subst (λ (k : ℕ). length (flat_map f w) ≤ k) (times ∙ sym letters) first
 
 -- an image vector counts at most the letters of the images of the letters of a drawing
-image_letters : (ts : List (List ℤ)) (f : ℤ → List ℤ) (v image : List ℕ) → IsImageVector ts v f image
+image_letters : WordLaws → (ts : List (List ℤ)) (f : ℤ → List ℤ) (v image : List ℕ) → IsImageVector ts v f image
     → (runs : List (List State)) → IsDrawing ts v runs
     → sum image ≤ length (flat_map f (flat_map (λ w. w) (words_of runs)))
-image_letters ts f v image images runs drawn =
+image_letters words ts f v image images runs drawn =
     let sized : length image ≡ edge_count ts = images.one_per_edge in
     let whole : sum (take (edge_count ts) image) ≡ sum image =
     ap sum (take_all (edge_count ts) image (omega (arith, sized))) in
@@ -332,20 +280,20 @@ image_letters ts f v image images runs drawn =
     ≤ length (flat_map (λ w. w) (images_under f (words_of runs))) =
     crossings_most (images_under f (words_of runs)) (edge_count ts) in
     let shorter : length (flat_map (λ w. w) (images_under f (words_of runs)))
-    ≤ length (flat_map f (flat_map (λ w. w) (words_of runs))) = images_short f (words_of runs) in
+    ≤ length (flat_map f (flat_map (λ w. w) (words_of runs))) = images_short words f (words_of runs) in
     omega (arith, whole, summed, crossed, shorter)
 
 -- The image of a multicurve has at most as many crossings as the letters of the map allow, each taken as often as the
 -- multicurve crosses an edge at most.
-pub image_total : (ts : List (List ℤ)) → DrawingLaws ts → (f : ℤ → List ℤ) → IsOdd f
+pub image_total : WordLaws → (ts : List (List ℤ)) → DrawingLaws ts → (f : ℤ → List ℤ) → IsOdd f
     → (v image : List ℕ) → IsMulticurve ts v → IsImageVector ts v f image → (most : ℕ)
     → ((e : ℕ) → e < edge_count ts → slice_index v e ≤ most) → sum image ≤ most * letters_of ts f
-image_total ts drawing f odd v image curve images most few =
+image_total words ts drawing f odd v image curve images most few =
     let drawn : IsDrawing ts v (draw ts v) = drawing.exists v curve in
     let letters : sum image ≤ length (flat_map f (flat_map (λ w. w) (words_of (draw ts v)))) =
-    image_letters ts f v image images (draw ts v) drawn in
+    image_letters words ts f v image images (draw ts v) drawn in
     let crossed : length (flat_map f (flat_map (λ w. w) (words_of (draw ts v)))) ≤ most * letters_of ts f =
-    crossed_letters f odd (edge_count ts) most (flat_map (λ w. w) (words_of (draw ts v)))
+    crossed_letters words f odd (edge_count ts) most (flat_map (λ w. w) (words_of (draw ts v)))
     (walks_below ts (words_of (draw ts v)) (drawing.walks v (draw ts v) curve drawn))
     (λ e less. subst (λ (k : ℕ). k ≤ most) (sym (drawing.counts v (draw ts v) curve drawn e less)) (few e less)) in
     le_trans letters crossed

@@ -11,6 +11,7 @@ use Rattle.std.specs.List.{fold, repeat}
 use Rattle.std.proofs.Math.Nat.{mul-le-mul_left}
 use Rattle.std.proofs.lemmas.Bool.{cases_lt}
 use Rattle.ideal_tri.specs.DrawingLaws.{DrawingLaws}
+use Rattle.ideal_tri.specs.WordLaws.{WordLaws}
 use Rattle.ideal_tri.specs.Triangulations.{IsTriangulation, edge_count}
 use Rattle.ideal_tri.specs.Vectors.{IsMulticurve}
 use Rattle.tri_atlas.specs.Arena.{Arena, IsArena, triangulation}
@@ -133,7 +134,7 @@ module _ (arena : Arena) (word : MovePath) (s : Stage) (w : List ℕ) (power : �
       vectors.join (back_along flips) turns at_stage
       ∙ ap (vector_along turns) to_stage.back ∙ sym (powers.along w power curve)
 
-  module _ (drawings : (triples : List (List ℤ)) → IsTriangulation triples → DrawingLaws triples)
+  module _ (words : WordLaws) (drawings : (triples : List (List ℤ)) → IsTriangulation triples → DrawingLaws triples)
       (v image : List ℕ) (is_v : v ≡ at_stage)
       (is_image : image ≡ image_number base (moves_of arena word) w power)
       (above : greatest_of v < total_of image / letter_cap) where
@@ -155,7 +156,7 @@ module _ (arena : Arena) (word : MovePath) (s : Stage) (w : List ℕ) (power : �
         (omega (
           arith,
           large_sum (greatest_of v) image above,
-          image_total (there arena s)
+          image_total words (there arena s)
               (drawings (there arena s) there_sound) (path_map path) (maps.paths.odd path) v image multicurve counts
               (greatest_of v) most,
         ))

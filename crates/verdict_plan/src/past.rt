@@ -14,7 +14,7 @@ ghost use Rattle.verdict_plan.specs.inside.PastCap.{IsPastAt};
 
 use cycle_stages::{Stage, greatest};
 use edge_coords::{Coords, OverflowAt};
-use ideal_tri::drawing_laws;
+use ideal_tri::{drawing_laws, word_laws};
 use multicurve_cert::power_laws;
 use tri_atlas::{Atlas, Path, atlas_laws, map_laws, vector_laws};
 
@@ -32,6 +32,7 @@ pub(crate) fn is_past(atlas: &Atlas, word: &Path, stage: &Stage, w: &Coords, pow
     ensures { IsTrue result → IsPastAt atlas.now word.now stage.now power }
 {
     let _ = atlas.base();
+    word_laws();
     drawing_laws();
     atlas_laws();
     map_laws();

@@ -26,4 +26,4 @@ returns-in-Ok-image_after c passes =
     (subst (λ (n : ℕ). c.greatest.result < n / letter_cap) c.total.ensures less) in
     all_past c.args.atlas.now c.args.word.now c.args.stage.now c.args.w.now.numbers c.args.power c.base.ensures.sound
     c.atlas_laws.ensures.ways c.map_laws.ensures c.vector_laws.ensures c.power_laws.ensures c.requires.kept start
-    c.drawing_laws.ensures there image moved c.in-Ok-image_after.ensures above
+    c.word_laws.ensures c.drawing_laws.ensures there image moved c.in-Ok-image_after.ensures above
