@@ -4,12 +4,10 @@
 Each word has LENGTH letters, generators of the surface file FILE and their inverses, each letter as likely
 as any other but for the inverse of the letter before it. Each is given to `flipper classify FILE WORD` with
 the default budgets. The output tells how many words got each verdict, and how long the runs took in the
-mean and at most, in milliseconds. The same SEED (0 without it) gives the same words. A run may take 4 GiB of
-memory, as by the launcher; what wants more is told as `error: memory`."""
+mean and at most, in milliseconds. The same SEED (0 without it) gives the same words."""
 import json
 import os
 import random
-import resource
 import subprocess
 import sys
 import time
@@ -28,10 +26,6 @@ def random_word(names, length, source):
     return '.'.join(name if sign > 0 else name + '^-1' for name, sign in letters)
 
 
-def limit_memory():
-    resource.setrlimit(resource.RLIMIT_AS, (4 << 30, 4 << 30))
-
-
 def main():
     if len(sys.argv) not in (4, 5):
         sys.exit(__doc__)
@@ -43,16 +37,13 @@ def main():
     for _ in range(count):
         word = random_word(names, length, source)
         start = time.perf_counter()
-        run = subprocess.run([program, 'classify', path, word], capture_output=True, preexec_fn=limit_memory)
+        run = subprocess.run([program, 'classify', path, word], capture_output=True)
         times.append(1000 * (time.perf_counter() - start))
-        if run.returncode == 0:
-            verdict = run.stdout.split()[0].decode()
-        elif run.stderr == b'error: memory\n':
-            verdict = 'error: memory'
-        else:
+        if run.returncode:
             sys.exit('%s: %s' % (word, run.stderr.decode()))
+        verdict = run.stdout.split()[0].decode()
         verdicts[verdict] = verdicts.get(verdict, 0) + 1
-    decided = count - verdicts.get('unknown', 0) - verdicts.get('error: memory', 0)
+    decided = count - verdicts.get('unknown', 0)
     print('%s, length %d: %d of %d decided' % (os.path.basename(path), length, decided, count))
     for verdict in sorted(verdicts):
         print('  %s: %d' % (verdict, verdicts[verdict]))
